@@ -1,0 +1,6 @@
+pub mod Tests
+pub mod Role
+pub mod RoleLaws
+pub mod Rule
+pub mod RuleLaws
+pub mod Derivation
