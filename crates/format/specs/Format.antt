@@ -47,13 +47,23 @@ rules-from n read zero [] = accepted (record { names = n; rules = read })
 rules-from n read zero (b ∷ s) = refused 5 (length read)
 rules-from n read (suc left) s = one-rule n (length read) (λ ρ rest. rules-from n (read ++ (ρ ∷ [])) left rest) (front s)
 
+-- the tests of causes 1, 2 and 4
+abbrev pub size-fits : List ℕ → Bool
+size-fits s = leb 8 (length s) && leb (length s) 2568
+
+abbrev pub mark-fits : List ℕ → Bool
+mark-fits s = same-chain (take 3 s) mark
+
+abbrev pub counts-fit : (names rules : ℕ) → Bool
+counts-fit n k = leb 1 n && leb n 64 && leb k 256
+
 -- causes 1 to 6
 unfoldable pub decode : List ℕ → Result Book
 decode s =
-    demand (leb 8 (length s) && leb (length s) 2568) 1 0
-    (demand (same-chain (take 3 s) mark) 2 0
+    demand (size-fits s) 1 0
+    (demand (mark-fits s) 2 0
     (demand (eqb (word s 3) 1) 3 0
-    (demand (leb 1 (getD s 5 0) && leb (getD s 5 0) 64 && leb (word s 6) 256) 4 0
+    (demand (counts-fit (getD s 5 0) (word s 6)) 4 0
     (rules-from (getD s 5 0) [] (word s 6) (drop 8 s)))))
 
 -- whether the rule equals an earlier rule or an earlier rule's inverse

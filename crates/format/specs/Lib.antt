@@ -3,5 +3,7 @@ pub mod Format
 pub mod Place
 pub mod ResultLaws
 pub mod FormatLaws
+pub mod RunLaws
 pub mod DecodeLaws
 pub mod RepeatLaws
+pub mod NamedLaws

@@ -38,6 +38,11 @@ unfoldable pub has-rule : Result Book → ℕ → Bool
 has-rule (refused cause value) k = false
 has-rule (accepted b) k = ltb k (length (b .rules))
 
--- the left side of rule k, as a part of the bytes; the empty part where the book has no such rule
+-- the left side of rule k; none where causes 1 to 6 refuse the book or it has no such rule
+unfoldable pub left-side : Result Book → ℕ → Chain
+left-side (refused cause value) k = []
+left-side (accepted b) k = getD (b .rules) k (record { left = []; right = 0 }) .left
+
+-- the part of the bytes that holds it; the empty part where there is none
 unfoldable pub left-part : List ℕ → ℕ → List ℕ
 left-part s k = cond (has-rule (decode s) k) (rule-at s (rule-place s k) .left) []

@@ -1,9 +1,10 @@
 -- Laws of cause 7: repeats among the first rules, and the search for the lowest from a rule on.
-use mathlib.Core.Bool.{Bool, true, false, not, _||_, or-assoc, or-false}
+use mathlib.Core.Bool.{Bool, true, false, not, _||_, or-assoc, or-false, or-true}
 use mathlib.Core.List.{List, [], _∷_, _++_}
 use mathlib.Core.Logic.{_⊎_, inl, inr}
 use mathlib.Core.Path.{_≡_, refl, sym, ap, _∙_}
 use Prim.Native.Nat.{ℕ, zero, suc, _+_, _-_, _<_, _≤_}
+use native.Mathlib.Numerals.{add-one}
 use native.Mathlib.Omega.{arith}
 use lib.ListN.{length, getD, drop, drop-of-length-le}
 use lib.Seq.{drop-cons}
@@ -23,8 +24,8 @@ repeats-append ρ (σ ∷ σs) τs =
 
 -- one rule more
 pub repeats-next : (s : List ℕ) (ρ : Rule) (k : ℕ)
-  → repeats ρ (first-rules s (suc k))
-  ≡ (repeats ρ (first-rules s k) || (same-rule ρ (rule-at s (rule-place s k)) || same-rule ρ (inverse (rule-at s (rule-place s k)))))
+    → repeats ρ (first-rules s (suc k))
+    ≡ (repeats ρ (first-rules s k) || (same-rule ρ (rule-at s (rule-place s k)) || same-rule ρ (inverse (rule-at s (rule-place s k)))))
 unfolding first-rules repeats
 repeats-next s ρ k = repeats-append ρ (first-rules s k) (rule-at s (rule-place s k) ∷ []) ∙ rw or-false refl
 
@@ -37,23 +38,37 @@ repeats-more s ρ k (suc m) h r = by-place (λ (p : k ≤ m). repeats-more s ρ 
     by-place before (inl p) = let e : k ≡ suc m = omega arith in rw e at r
     by-place before (inr p) = rw (repeats-next s ρ m, before p) refl
 
--- the search from rule k of the first m on
-module _ (s : List ℕ) (n m k : ℕ) (h : k < m) where
-  rest : drop k (first-rules s m) ≡ rule-at s (rule-place s k) ∷ drop (suc k) (first-rules s m)
-  rest =
-      drop-cons (first-rules s m) k (rule-at s 0) (rw length-first-rules h)
-      ∙ ap (λ (ρ : Rule). ρ ∷ drop (suc k) (first-rules s m)) (getD-first-rules s m k (rule-at s 0) h)
+-- the search for one rule among the first, as a loop runs it: rule k is σ
+module _ (s : List ℕ) (ρ σ : Rule) (k : ℕ) (e : σ ≡ rule-at s (rule-place s k)) where
+  pub repeats-none : repeats ρ (first-rules s k) ≡ false → (same-rule ρ σ || same-rule ρ (inverse σ)) ≡ false → repeats ρ (first-rules s (k + 1)) ≡ false
+  repeats-none h d = rw (add-one, repeats-next s ρ k, h, ← e) d
 
-  pub distinct-next : repeats (rule-at s (rule-place s k)) (first-rules s k) ≡ false
-    → distinct n (first-rules s k) (drop k (first-rules s m)) ≡ distinct n (first-rules s (suc k)) (drop (suc k) (first-rules s m))
-  unfolding distinct first-rules
-  distinct-next r = ap (distinct n (first-rules s k)) rest ∙ rw r refl
+  pub repeats-found : (count : ℕ) → k < count → (same-rule ρ σ || same-rule ρ (inverse σ)) ≡ true → repeats ρ (first-rules s count) ≡ true
+  repeats-found count h d = repeats-more s ρ (suc k) count h (rw (repeats-next s ρ k, ← e, d) (or-true (repeats ρ (first-rules s k))))
 
-  pub distinct-repeat : repeats (rule-at s (rule-place s k)) (first-rules s k) ≡ true
-    → distinct n (first-rules s k) (drop k (first-rules s m)) ≡ refused 7 k
+-- the search for the lowest repeat, as a loop runs it: the whole search is the one from rule k on, after the rules before it
+abbrev pub Searching : List ℕ → (names count k : ℕ) → Type 0
+Searching s n count k = distinct n [] (first-rules s count) ≡ distinct n (first-rules s k) (drop k (first-rules s count))
+
+module _ (s : List ℕ) (n count : ℕ) where
+  pub searching-start : Searching s n count 0
+  unfolding first-rules
+  searching-start = refl
+
+  pub searching-end : (k : ℕ) → k ≡ count → Searching s n count k → distinct n [] (first-rules s count) ≡ accepted (record { names = n; rules = first-rules s count })
   unfolding distinct
-  distinct-repeat r = ap (distinct n (first-rules s k)) rest ∙ rw (r, length-first-rules s k) refl
+  searching-end k e h = h ∙ rw (e, drop-of-length-le (first-rules s count) {i = count} (rw length-first-rules (omega arith))) refl
 
-pub distinct-end : (s : List ℕ) (n m : ℕ) → distinct n (first-rules s m) (drop m (first-rules s m)) ≡ accepted (record { names = n; rules = first-rules s m })
-unfolding distinct
-distinct-end s n m = rw (drop-of-length-le (first-rules s m) {i = m} (rw length-first-rules (omega arith))) refl
+  module _ (ρ : Rule) (k : ℕ) (e : ρ ≡ rule-at s (rule-place s k)) (p : k < count) (h : Searching s n count k) where
+    rest : drop k (first-rules s count) ≡ rule-at s (rule-place s k) ∷ drop (suc k) (first-rules s count)
+    rest =
+        drop-cons (first-rules s count) k ρ (rw length-first-rules p)
+        ∙ ap (λ (σ : Rule). σ ∷ drop (suc k) (first-rules s count)) (getD-first-rules s count k ρ p)
+
+    pub searching-next : repeats ρ (first-rules s k) ≡ false → Searching s n count (k + 1)
+    unfolding distinct first-rules
+    searching-next r = h ∙ rw (rest, ← e, r, add-one, ← e) refl
+
+    pub searching-found : repeats ρ (first-rules s k) ≡ true → distinct n [] (first-rules s count) ≡ refused 7 k
+    unfolding distinct
+    searching-found r = h ∙ rw (rest, ← e, r, length-first-rules s k) refl

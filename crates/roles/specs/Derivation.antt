@@ -8,7 +8,7 @@ use Rattle.roles.specs.Rule.{Rule, completion}
 -- one replacement: a role of the chain gives way to the left side of a completed rule whose right side it is
 pub data Step (ρs : List Rule) : Chain → Chain → Type 0 where
   replace : (before after : Chain) (ρ : Rule) → List·Memᴰ ρ (completion ρs)
-    → Step ρs (before ++ ρ .right ∷ after) (before ++ (ρ .left ++ after))
+      → Step ρs (before ++ ρ .right ∷ after) (before ++ (ρ .left ++ after))
 
 -- finitely many replacements, perhaps none, lead from the role to the chain
 abbrev pub Derives : List Rule → ℕ → Chain → Type 0

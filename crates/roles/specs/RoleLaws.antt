@@ -61,14 +61,14 @@ getD-inv-chain (r ∷ w) i h = rw inv-chain-cons (by-place (λ (k : i < length w
     inside k = ap (λ (m : ℕ). getD (r ∷ w) m 0) (let e : length w - i ≡ suc (length w - 1 - i) = omega arith in e)
 
     by-place : (i < length w → getD (inv-chain w) i 0 ≡ inv (getD w (length w - 1 - i) 0)) → (i < length w) ⊎ (length w ≤ i)
-      → getD (inv-chain w ++ (inv r ∷ [])) i 0 ≡ inv (getD (r ∷ w) (suc (length w) - 1 - i) 0)
+        → getD (inv-chain w ++ (inv r ∷ [])) i 0 ≡ inv (getD (r ∷ w) (suc (length w) - 1 - i) 0)
     by-place before (inl k) =
-      let e : suc (length w) - 1 - i ≡ length w - i = omega arith in
-      rw (e, inside k, List·getD-append (inv-chain w) (inv r ∷ []) 0 i (rw length-inv-chain k)) (before k)
+        let e : suc (length w) - 1 - i ≡ length w - i = omega arith in
+        rw (e, inside k, List·getD-append (inv-chain w) (inv r ∷ []) 0 i (rw length-inv-chain k)) (before k)
     by-place before (inr k) =
-      let e : suc (length w) - 1 - i ≡ 0 = omega arith in
-      let f : i ≡ length (inv-chain w) + 0 = rw length-inv-chain (omega arith) in
-      rw (e, f, getD-append-add (inv-chain w) (inv r ∷ []) 0 0) refl
+        let e : suc (length w) - 1 - i ≡ 0 = omega arith in
+        let f : i ≡ length (inv-chain w) + 0 = rw length-inv-chain (omega arith) in
+        rw (e, f, getD-append-add (inv-chain w) (inv r ∷ []) 0 0) refl
 
 pub same-chain-refl : (w : Chain) → same-chain w w ≡ true
 unfolding same-chain
