@@ -1,0 +1,101 @@
+-- `distinct` meets its contract. The invariant: the cursor is at rule `later`, and the whole search is the one from there on.
+use mathlib.Core.Path.{_≡_, refl, sym, ap, _∙_}
+use Prim.Native.Nat.{_≤_, _-_}
+use native.Mathlib.Omega.{arith}
+use borrow.Author.Needs.{needs}
+use borrow.Author.Tests.{not-true, not-false}
+use Rattle.reader.specs.CursorLaws.{at-rule, some-rule}
+use Rattle.reader.specs.Verdict.{header-of}
+use Rattle.reader.specs.VerdictLaws.{check-passed, check-failed, headed}
+use Rattle.format.specs.FormatLaws.{length-first-rules}
+use Rattle.format.specs.Place.{rule-place}
+use Rattle.format.specs.RepeatLaws.{Searching, searching-start, searching-next, searching-found, searching-end}
+use Rattle.format.specs.Result.{map-result}
+use Rattle.reader.proofs.repeats.distinct.Statement.{statement}
+use Rattle.reader.proofs.repeats.distinct.Tie as tie
+
+abbrev Inv-loop : tie.InvT-loop
+Inv-loop book header rules cursor₀ later₀ cursor later = (later ≤ rules) × ((cursor .at ≡ rule-place book later) × Searching book (header .names) rules later)
+
+abbrev μ-loop : tie.MeasureT-loop
+μ-loop book header rules cursor₀ later₀ cursor later = rules - later
+
+first-requires : tie.Need-first-requires Inv-loop μ-loop
+first-requires c κs = search needs
+
+loop-holds : tie.Need-loop-holds Inv-loop μ-loop
+unfolding rule-place
+loop-holds c = (omega arith, (c .first .ensures, searching-start _ _ _))
+
+step-requires : tie.Need-step-requires Inv-loop μ-loop
+step-requires c κs = search needs
+
+enum-known-entry : tie.Need-enum-known-entry Inv-loop μ-loop
+enum-known-entry c = search needs
+
+enum-told : tie.Need-enum-told Inv-loop μ-loop
+enum-told c = search needs
+
+returns : tie.Need-returns Inv-loop μ-loop
+returns c = absurd (some-rule _ _ _ _ (c .before .before .before .before .loop .inv .1 .0) (headed _ _ (c .before .before .before .before .before .before .before .pre) .whole (c .before .before .before .before .loop .later) (c .before .before .before .loop-test .taken)) (c .before .before .step .ensures) (c .enum-told .given .1))
+
+fresh-requires : tie.Need-fresh-requires Inv-loop μ-loop
+fresh-requires c κs = (at-rule _ _ _ _ _ _ (c .before .before .before .before .before .loop .inv .1 .0) (c .before .before .before .step .ensures) (c .before .entry .given .1) .fits, λ k p. headed _ _ (c .before .before .before .before .before .before .before .before .pre) .whole k (omega arith))
+
+enum-told-2 : tie.Need-enum-told-2 Inv-loop μ-loop
+enum-told-2 c = search needs
+
+enum-told-3 : tie.Need-enum-told-3 Inv-loop μ-loop
+enum-told-3 c = search needs
+
+returns-2 : tie.Need-returns-2 Inv-loop μ-loop
+returns-2 c =
+    let a = at-rule _ _ _ _ _ _ (c .before .before .before .before .before .before .before .before .loop .inv .1 .0) (c .before .before .before .before .before .before .step .ensures) (c .before .before .before .before .entry .given .1) in
+    sym
+    (ap (map-result header-of)
+    (headed _ _ (c .before .before .before .before .before .before .before .before .before .before .before .pre) .reads
+    ∙ searching-found _ _ _ _ _ (a .rule) (c .before .before .before .before .before .before .before .loop-test .taken) (c .before .before .before .before .before .before .before .before .loop .inv .1 .1) (not-false _ (check-failed _ _ (c .before .before .fresh .ensures) (c .enum-told3 .given .1)))))
+
+add-later : tie.Need-add-later Inv-loop μ-loop
+add-later c = search needs
+
+loop-less : tie.Need-loop-less Inv-loop μ-loop
+loop-less c = search needs
+
+loop-again : tie.Need-loop-again Inv-loop μ-loop
+loop-again c =
+    let a = at-rule _ _ _ _ _ _ (c .before .before .before .before .before .before .before .before .loop .inv .1 .0) (c .before .before .before .before .before .before .step .ensures) (c .before .before .before .before .entry .given .1) in (
+      omega arith,
+      (
+        a .place,
+        searching-next _ _ _ _ _ (a .rule) (c .before .before .before .before .before .before .before .loop-test .taken) (c .before .before .before .before .before .before .before .before .loop .inv .1 .1) (not-true _ (check-passed _ _ (c .before .before .fresh .ensures) (c .enum-told2 .given .1))),
+      ),
+    )
+
+returns-3 : tie.Need-returns-3 Inv-loop μ-loop
+returns-3 c =
+    sym
+    (ap (map-result header-of)
+    (headed _ _ (c .before .before .before .before .pre) .reads ∙ searching-end _ _ _ _ (let e : c .before .loop .later ≡ c .before .before .before .before .args .header .rules = omega arith in e) (c .before .loop .inv .1 .1))
+    ∙ rw length-first-rules refl)
+
+pub distinct-spec : {M : Type 1} → statement M
+distinct-spec =
+    tie.close
+    (tie.spec
+    Inv-loop
+    μ-loop
+    first-requires
+    loop-holds
+    step-requires
+    enum-known-entry
+    enum-told
+    returns
+    fresh-requires
+    enum-told-2
+    enum-told-3
+    returns-2
+    add-later
+    loop-less
+    loop-again
+    returns-3)

@@ -1,0 +1,22 @@
+-- Document 01's number of each refusal, and the value returned beside it.
+use Prim.Native.Nat.{ℕ}
+use Rattle.reader.specs.declared.refusal.Refusal.{Refusal}
+use Rattle.reader.specs.declared.refusal.Refusal.the-variants.{Size, Mark, Version, Range, Malformed, Undeclared, Repeated}
+
+abbrev pub cause-of : Refusal → ℕ
+cause-of Size = 1
+cause-of Mark = 2
+cause-of Version = 3
+cause-of Range = 4
+cause-of (Malformed rule) = 5
+cause-of (Undeclared rule) = 6
+cause-of (Repeated rule) = 7
+
+abbrev pub value-of : Refusal → ℕ
+value-of Size = 0
+value-of Mark = 0
+value-of Version = 0
+value-of Range = 0
+value-of (Malformed rule) = rule
+value-of (Undeclared rule) = rule
+value-of (Repeated rule) = rule
