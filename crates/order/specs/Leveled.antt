@@ -1,18 +1,27 @@
--- Levels: a number for each name of a book, such that the inner names of each rule are lower than the rule's right name.
-use mathlib.Core.Bool.{true}
+-- Orders on names, and levels: a number for each name such that the inner names of each rule are lower than the rule's right name.
 use mathlib.Core.List.{List, [], List·Memᴰ}
 use mathlib.Core.Path.{_≡_}
-use Prim.Native.Nat.{ℕ, _*_, _<_}
+use Prim.Native.Nat.{ℕ, _<_}
 use Rattle.roles.specs.Role.{Chain, name}
 use Rattle.roles.specs.Rule.{Rule}
 use Rattle.order.specs.Shape.{End, Shape, shape}
 use Rattle.order.specs.Shape.Shape.{transitive, symmetric, row}
 
--- the inner roles of a shape are some, and all of lower level than a name
+-- the inner roles of a shape are some, and their names lower than x
+abbrev pub Lower {ℓ} : (ℕ → ℕ → Type ℓ) → ℕ → Shape → Type ℓ
+Lower lower x transitive = Unit
+Lower lower x symmetric = Unit
+Lower lower x (row from to inner) = (inner ≡ [] → ⊥) × ((s : ℕ) → List·Memᴰ s inner → lower (name s) x)
+
+-- an irreflexive, transitive relation on names, under which the inner names of each rule are lower than its right name
+pub record NameOrder {ℓ} (lower : ℕ → ℕ → Type ℓ) (ρs : List Rule) : Type ℓ where
+  pub irreflexive : (x : ℕ) → lower x x → ⊥
+  pub transitive : (x y z : ℕ) → lower x y → lower y z → lower x z
+  pub inner : (ρ : Rule) → List·Memᴰ ρ ρs → Lower lower (name (ρ .right)) (shape ρ)
+
+-- the same by levels
 abbrev pub Fits : (ℕ → ℕ) → ℕ → Shape → Type 0
-Fits level x transitive = Unit
-Fits level x symmetric = Unit
-Fits level x (row from to inner) = (inner ≡ [] → ⊥) × ((s : ℕ) → List·Memᴰ s inner → level (name s) < level x)
+Fits level x s = Lower (λ (y z : ℕ). level y < level z) x s
 
 -- levels below n that fit every rule
 pub record Leveled (n : ℕ) (ρs : List Rule) : Type 0 where

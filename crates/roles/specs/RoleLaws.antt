@@ -10,7 +10,7 @@ use lib.ListN.{length, getD, length-append, length-map, length-reverse, List·ge
 use lib.Seq.{getD-append-add}
 use mathlib.Core.Logic.{_⊎_, inl, inr}
 use native.Mathlib.Nat.{not-suc-le-zero}
-use Rattle.roles.specs.Tests.{and-left, and-right, not-true-false, lt-or-le}
+use Rattle.roles.specs.Tests.{and-left, and-right, not-true-false, lt-or-le, eq-or-ne}
 use Rattle.roles.specs.Role.{Chain, name, polarity, inv, inv-chain, same-chain}
 
 pub inv-inv : (r : ℕ) → inv (inv r) ≡ r
@@ -20,6 +20,15 @@ inv-inv r = omega arith
 pub name-inv : (r : ℕ) → name (inv r) ≡ name r
 unfolding inv name
 name-inv r = omega arith
+
+-- two roles of one name are equal or inverse to each other
+pub same-name : (s r : ℕ) → name s ≡ name r → (s ≡ r) ⊎ (s ≡ inv r)
+unfolding name inv
+same-name s r h = by-test (eq-or-ne s r)
+  where
+    by-test : (s ≡ r) ⊎ (s ≡ r → ⊥) → (s ≡ r) ⊎ (s ≡ inv r)
+    by-test (inl e) = inl e
+    by-test (inr e) = inr (omega arith)
 
 -- a role below an even bound has its inverse below it
 pub inv-below : (r n : ℕ) → r < 2 * n → inv r < 2 * n
