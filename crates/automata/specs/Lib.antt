@@ -1,0 +1,8 @@
+pub mod Every
+pub mod Named
+pub mod NamedLaws
+pub mod FromRun
+pub mod Carried
+pub mod Rows
+pub mod FromPath
+pub mod Accepts

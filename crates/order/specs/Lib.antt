@@ -6,3 +6,5 @@ pub mod RoleOrder
 pub mod Closure
 pub mod ClosureLaws
 pub mod Decide
+pub mod Mask
+pub mod MaskLaws

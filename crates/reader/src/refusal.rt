@@ -17,6 +17,14 @@ pub enum Refusal {
     Undeclared(usize),
     // A rule that equals an earlier rule or the inverse of one, by its number.
     Repeated(usize),
+    // No regular order, by the last rule of the shortest front part without one.
+    NoOrder(usize),
+    // More than 2,048 states.
+    States,
+    // More than 5,120 transitions.
+    Transitions,
+    // Heads or moves lent too short.
+    Short,
 }
 
 // The number of the cause.
@@ -31,6 +39,10 @@ pub fn cause(refusal: Refusal) -> usize
         Refusal::Malformed(_) => 5,
         Refusal::Undeclared(_) => 6,
         Refusal::Repeated(_) => 7,
+        Refusal::NoOrder(_) => 8,
+        Refusal::States => 9,
+        Refusal::Transitions => 10,
+        Refusal::Short => 11,
     }
 }
 
@@ -46,5 +58,9 @@ pub fn value(refusal: Refusal) -> usize
         Refusal::Malformed(rule) => rule,
         Refusal::Undeclared(rule) => rule,
         Refusal::Repeated(rule) => rule,
+        Refusal::NoOrder(rule) => rule,
+        Refusal::States => 0,
+        Refusal::Transitions => 0,
+        Refusal::Short => 0,
     }
 }

@@ -1,0 +1,25 @@
+-- Sets of names as bit masks: name y is in the set where bit y is set.
+use mathlib.Core.Bool.{Bool, true, false}
+use mathlib.Core.List.{List}
+use mathlib.Core.Path.{_≡_}
+use Prim.Native.Nat.{ℕ, zero, suc, _+_, _/_, _%_, _^_, _<_}
+use lib.Dec.{eqb}
+use lib.ListN.{length, getD}
+
+-- whether bit y is set
+unfoldable pub has : ℕ → ℕ → Bool
+has m y = eqb (m / 2 ^ y % 2) 1
+
+-- masks of 64 names that hold a relation: the names lower than x are the set of mask x
+pub record Holds (masks : List ℕ) (lower : ℕ → ℕ → Bool) : Type 0 where
+  pub size : length masks ≡ 64
+  pub bits : (x y : ℕ) → x < 64 → y < 64 → has (getD masks x 0) y ≡ lower y x
+
+abbrev pub bit : Bool → ℕ
+bit false = 0
+bit true = 1
+
+-- how many of the first d numbers pass a test
+unfoldable pub count : ℕ → (ℕ → Bool) → ℕ
+count zero P = 0
+count (suc d) P = bit (P 0) + count d (λ k. P (suc k))
