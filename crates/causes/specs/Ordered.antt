@@ -27,4 +27,4 @@ pub data Judged (b : Book) : Result Book → Type 0 where
   has-order : Regular (b .rules) → Judged b (accepted b)
   -- every front part of k rules or fewer has one, and the front part that ends with rule k has none
   none : (k : ℕ) → k < length (b .rules) → ((j : ℕ) → j ≤ k → Regular (take j (b .rules))) → (Regular (take (suc k) (b .rules)) → ⊥)
-    → Judged b (refused 8 k)
+      → Judged b (refused 8 k)

@@ -25,7 +25,7 @@ regular-take ρs τs r j h =
 
 -- from a rule on, where the rules before it gave an order
 judged-from : (b : Book) (done rest : List Rule) (lower : ℕ → ℕ → Bool) → Closed done lower → b .rules ≡ done ++ rest
-  → ((ρ : Rule) → List·Memᴰ ρ rest → ρ .left ≡ [] → ⊥) → Judged b (order-from b lower (length done) rest)
+    → ((ρ : Rule) → List·Memᴰ ρ rest → ρ .left ≡ [] → ⊥) → Judged b (order-from b lower (length done) rest)
 unfolding order-from
 judged-from b done [] lower c e some = has-order (rw (e, append-nil) (closed-regular done lower c))
 judged-from b done (ρ ∷ rest) lower c e some =
@@ -46,11 +46,11 @@ judged-from b done (ρ ∷ rest) lower c e some =
     fits = rw e (rw length-append (omega arith))
 
     by-test : (t : Bool) → clashes lower ρ ≡ t
-      → (Closed (done ++ (ρ ∷ [])) (with-rule lower ρ) → Judged b (order-from b (with-rule lower ρ) (length (done ++ (ρ ∷ []))) rest))
-      → Judged b (demand (not t) 8 (length done) (order-from b (with-rule lower ρ) (suc (length done)) rest))
+        → (Closed (done ++ (ρ ∷ [])) (with-rule lower ρ) → Judged b (order-from b (with-rule lower ρ) (length (done ++ (ρ ∷ []))) rest))
+        → Judged b (demand (not t) 8 (length done) (order-from b (with-rule lower ρ) (suc (length done)) rest))
     by-test true h next =
-      none (length done) fits (λ j p. rw e (regular-take done (ρ ∷ rest) (closed-regular done lower c) j p))
-      (λ r. clash-irregular done lower c ρ h (subst Regular front r))
+        none (length done) fits (λ j p. rw e (regular-take done (ρ ∷ rest) (closed-regular done lower c) j p))
+        (λ r. clash-irregular done lower c ρ h (subst Regular front r))
     by-test false h next = rw longer at (next (closed-with done lower c ρ (some ρ (List·Memᴰ·head refl)) h))
 
 -- a well-formed book is judged as document 01 asks

@@ -39,10 +39,10 @@ has-single x y = by-order (lt-or-le y x) (eq-or-ne y x)
     by-order : (y < x) ⊎ (x ≤ y) → (y ≡ x) ⊎ (y ≡ x → ⊥) → eqb (2 ^ x / 2 ^ y % 2) 1 ≡ eqb y x
     by-order p (inl e) = rw (e, div-self (pow-pos x), eq-eqb x x refl) refl
     by-order (inl p) (inr e) =
-      let d : x ≡ suc (x - y - 1) + y = omega arith in
-      let s : 2 ^ x ≡ 2 ^ suc (x - y - 1) * 2 ^ y = ap (λ (k : ℕ). 2 ^ k) d ∙ pow-add 2 (suc (x - y - 1)) y in
-      let m : 2 ^ suc (x - y - 1) % 2 ≡ 0 = omega arith in
-      rw (s, shl-shr (2 ^ suc (x - y - 1)) y, m, ne-eqb y x e) refl
+        let d : x ≡ suc (x - y - 1) + y = omega arith in
+        let s : 2 ^ x ≡ 2 ^ suc (x - y - 1) * 2 ^ y = ap (λ (k : ℕ). 2 ^ k) d ∙ pow-add 2 (suc (x - y - 1)) y in
+        let m : 2 ^ suc (x - y - 1) % 2 ≡ 0 = omega arith in
+        rw (s, shl-shr (2 ^ suc (x - y - 1)) y, m, ne-eqb y x e) refl
     by-order (inr p) (inr e) = rw (div-eq-of-lt (pow-lt {i = x} {j = y} (omega arith)), ne-eqb y x e) refl
 
 -- the bits of half a number
@@ -70,16 +70,18 @@ count-le (suc d) P Q h =
 
 -- a test that passes where another does, and once more, passes more often
 pub count-lt : (d : ℕ) (P Q : ℕ → Bool) → ((k : ℕ) → k < d → P k ≡ true → Q k ≡ true) → (z : ℕ) → z < d → P z ≡ false → Q z ≡ true
-  → count d P < count d Q
+    → count d P < count d Q
 unfolding count
 count-lt zero P Q h z l a b = absurd (not-suc-le-zero l)
 count-lt (suc d) P Q h zero l a b =
     let rest : count d (λ k. P (suc k)) ≤ count d (λ k. Q (suc k)) = count-le d (λ k. P (suc k)) (λ k. Q (suc k)) (λ k p. h (suc k) (omega arith)) in
     rw (a, b) (omega arith)
 count-lt (suc d) P Q h (suc z) l a b =
-    omega
-    (arith, bit-le (P 0) (Q 0) (h 0 (omega arith)),
-    count-lt d (λ k. P (suc k)) (λ k. Q (suc k)) (λ k p. h (suc k) (omega arith)) z (le-of-suc-le-suc l) a b)
+    omega (
+      arith,
+      bit-le (P 0) (Q 0) (h 0 (omega arith)),
+      count-lt d (λ k. P (suc k)) (λ k. Q (suc k)) (λ k p. h (suc k) (omega arith)) z (le-of-suc-le-suc l) a b,
+    )
 
 low-bit : (p : ℕ) → p < 2 → p ≡ bit (eqb p 1)
 low-bit zero h = refl

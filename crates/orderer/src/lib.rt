@@ -1,23 +1,50 @@
 // The order check: whether a book has a regular order, cause 8 of document 01, and levels that follow it.
+ghost use mathlib.Core.Bool.{Bool, true, false};
+ghost use mathlib.Core.List.{_∷_};
+ghost use mathlib.Core.Path.{_≡_};
+ghost use Prim.Native.Nat.{ℕ, _<_};
+ghost use lib.ListN.{length, getD, replicate};
+ghost use Rattle.roles.specs.Rule.{Book};
+ghost use Rattle.order.specs.Closure.{no-order, with-rule, clashes};
+ghost use Rattle.order.specs.Mask.{Holds, count};
+ghost use Rattle.order.specs.Mask.{has as has-of};
+ghost use Rattle.format.specs.Result.{map-result};
+ghost use Rattle.format.specs.Result.Result.{accepted};
+ghost use Rattle.format.specs.Format.{named};
+ghost use Rattle.format.specs.Format.{read as read-of};
+ghost use Rattle.causes.specs.Ordered.{ordered};
+ghost use Rattle.reader.specs.Verdict.{header-of, says};
+ghost use Rattle.orderer.specs.Gather.{gathered, Ordered, Gathered-order};
+
 mod masks;
 mod shape;
 
-use masks::{absorb, has, reached};
-use reader::{Cursor, Entry, Header, Refusal, Step, Verdict};
-use shape::{Row, Shape, shape_of};
+use masks::absorb;
+use masks::has;
+use masks::reached;
+use reader::Cursor;
+use reader::Header;
+use reader::Refusal;
+use reader::Step;
+use reader::Verdict;
+pub use shape::Row;
+pub use shape::Shape;
+pub use shape::shape_of;
 
 // The verdict on a book by causes 1 to 8 and, where it passes, a level for each name: the inner names of each rule are of lower level
-// than its right name. Levels are 0 where the book is refused and past the last name.
-pub struct Order {
+// than its right name. Levels are 0 where the book is refused.
+pub struct Ordering {
     pub verdict: Verdict,
     pub levels: [u8; 64],
 }
 
 // Checks the order of a book.
-pub fn order(book: &[u8]) -> Order {
+pub fn order(book: &[u8]) -> Ordering
+    ensures { λ r. ⌜ Ordered (now (book .entry)) r ⌝ }
+{
     let verdict = reader::read(book);
     let Verdict::WellFormed(header) = verdict else {
-        return Order {
+        return Ordering {
             verdict: verdict,
             levels: [0u8; 64],
         };
@@ -25,12 +52,12 @@ pub fn order(book: &[u8]) -> Order {
     let mut masks = [0u64; 64];
     let gathered = gather(book, header, &mut masks);
     let Verdict::WellFormed(_) = gathered else {
-        return Order {
+        return Ordering {
             verdict: gathered,
             levels: [0u8; 64],
         };
     };
-    Order {
+    Ordering {
         verdict: gathered,
         levels: counted(&masks),
     }
@@ -38,7 +65,12 @@ pub fn order(book: &[u8]) -> Order {
 
 // Gathers the order that the rules force on the names: mask x holds the names lower than x. Refused at the first rule that would put its
 // right name below itself.
-fn gather(book: &[u8], header: Header, masks: &mut [u64]) -> Verdict {
+fn gather(book: &[u8], header: Header, masks: &mut [u64]) -> Verdict
+    requires { ⌜ map-result header-of (read-of (now book)) ≡ accepted header ⌝ }
+    requires { ⌜ Holds (now masks) no-order ⌝ }
+    ensures { λ r. ⌜ says r ≡ map-result header-of (ordered (now (book .entry))) ⌝ }
+    ensures { λ r. ⌜ Gathered-order (now (book .entry)) (says r) (now (masks .exit)) ⌝ }
+{
     let rules = header.rules;
     let mut cursor = Cursor::first();
     let mut number = 0;
@@ -46,7 +78,9 @@ fn gather(book: &[u8], header: Header, masks: &mut [u64]) -> Verdict {
         let Step::Rule(entry, next) = cursor.step(book) else {
             return Verdict::WellFormed(header); // not reached: the book is well-formed
         };
-        let Gathered::Calm = add_rule(book, entry, masks) else {
+        let start = entry.start;
+        let end = start + entry.size;
+        let Gathered::Calm = add_rule(&book[start..end], entry.right, masks) else {
             return Verdict::Refused(Refusal::NoOrder(number));
         };
         cursor = next;
@@ -62,23 +96,33 @@ pub enum Gathered {
 }
 
 // Adds what a rule forces, unless it would put its right name below itself.
-fn add_rule(book: &[u8], rule: Entry, masks: &mut [u64]) -> Gathered {
-    let Shape::Row(row) = shape_of(book, rule) else {
+fn add_rule(left: &[u8], right: u8, masks: &mut [u64]) -> Gathered
+    requires { ⌜ named 64 (right ∷ now left) ≡ true ⌝ }
+    requires { ⌜ length (now masks) ≡ 64 ⌝ }
+    ensures { λ r. ⌜ ((lower : ℕ → ℕ → Bool) → Holds (now (masks .entry)) lower →
+        (r ≡ gathered (clashes lower (record { left = now (left .entry); right = right })))
+        × (clashes lower (record { left = now (left .entry); right = right }) ≡ false
+        → Holds (now (masks .exit)) (with-rule lower (record { left = now (left .entry); right = right })))) ⌝ }
+{
+    let Shape::Row(row) = shape_of(left, right) else {
         return Gathered::Calm;
     };
     let start = row.start;
-    let size = row.size;
-    let lower = reached(book, masks, start, size);
-    let right = reader::name(rule.right) as usize;
-    if has(lower, right) {
+    let end = start + row.size;
+    let lower = reached(&left[start..end], masks);
+    let over = reader::name(right) as usize;
+    if has(lower, over) {
         return Gathered::Clash;
     }
-    absorb(masks, right, lower);
+    absorb(masks, over, lower);
     Gathered::Calm
 }
 
 // How many names each name has below it.
-fn counted(masks: &[u64]) -> [u8; 64] {
+fn counted(masks: &[u64]) -> [u8; 64]
+    requires { ⌜ length (now masks) ≡ 64 ⌝ }
+    ensures { λ r. ⌜ (length r ≡ 64) × ((x : ℕ) → x < 64 → getD r x 0 ≡ count 64 (has-of (getD (now (masks .entry)) x 0))) ⌝ }
+{
     let mut levels = [0u8; 64];
     let mut x = 0;
     while x < 64 {

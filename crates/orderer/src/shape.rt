@@ -1,5 +1,8 @@
-// The shape of a rule, by its letters: which of document 01's five forms it can have, and where its inner roles lie.
-use reader::{Entry, inverse};
+// The shape of a rule, by its letters: which of document 01's five forms it can have, and where its inner roles lie in its left side.
+ghost use mathlib.Core.Bool.{true, false};
+ghost use mathlib.Core.Path.{_≡_};
+ghost use Rattle.orderer.specs.Shape.{Shaped};
+use reader::inverse;
 
 pub enum Shape {
     // Form 4, R R to R.
@@ -10,30 +13,29 @@ pub enum Shape {
     Row(Row),
 }
 
-// The inner roles of a rule, a part of the book, and the states that they stand between: final or, else, initial.
+// The inner roles of a rule, a part of its left side, and the states that they stand between: true for final, false for initial.
 pub struct Row {
-    pub from_final: bool,
-    pub to_final: bool,
+    pub from: bool,
+    pub to: bool,
     pub start: usize,
     pub size: usize,
 }
 
-pub fn shape_of(book: &[u8], rule: Entry) -> Shape {
-    let start = rule.start;
-    let size = rule.size;
-    let right = rule.right;
-    let first = book[start];
-    let last = book[start + (size - 1)];
+// The shape of a rule with a left side and a right role. The row of a rule without a left role is empty.
+pub fn shape_of(left: &[u8], right: u8) -> Shape
+    ensures { λ r. ⌜ Shaped (now (left .entry)) right r ⌝ }
+{
+    let size = left.len();
+    if size == 0 {
+        return plain(size);
+    }
+    let first = left[0];
+    let last = left[size - 1];
     if size == 1 {
         if first == inverse(right) {
             return Shape::Symmetric;
         }
-        return Shape::Row(Row {
-            from_final: false,
-            to_final: true,
-            start: start,
-            size: size,
-        });
+        return plain(size);
     }
     if first == right {
         if size == 2 {
@@ -42,24 +44,31 @@ pub fn shape_of(book: &[u8], rule: Entry) -> Shape {
             }
         }
         return Shape::Row(Row {
-            from_final: true,
-            to_final: true,
-            start: start + 1,
+            from: true,
+            to: true,
+            start: 1,
             size: size - 1,
         });
     }
     if last == right {
         return Shape::Row(Row {
-            from_final: false,
-            to_final: false,
-            start: start,
+            from: false,
+            to: false,
+            start: 0,
             size: size - 1,
         });
     }
+    plain(size)
+}
+
+// Form 1: the whole left side, from initial to final.
+fn plain(size: usize) -> Shape
+    ensures { λ r. ⌜ r ≡ Shape.Row (record { from = false; to = true; start = 0; size = size }) ⌝ }
+{
     Shape::Row(Row {
-        from_final: false,
-        to_final: true,
-        start: start,
+        from: false,
+        to: true,
+        start: 0,
         size: size,
     })
 }

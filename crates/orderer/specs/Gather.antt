@@ -1,0 +1,46 @@
+-- What the order check's answers say.
+use mathlib.Core.Bool.{Bool, true, false}
+use mathlib.Core.List.{List, List·Memᴰ}
+use mathlib.Core.Path.{_≡_}
+use Prim.Native.Nat.{ℕ, _<_}
+use lib.ListN.{length, getD, replicate}
+use Rattle.roles.specs.Role.{name}
+use Rattle.roles.specs.Rule.{Rule, Book}
+use Rattle.order.specs.Shape.{shape}
+use Rattle.order.specs.Leveled.{Fits}
+use Rattle.order.specs.Mask.{Holds}
+use Rattle.order.specs.ClosureLaws.{Closed}
+use Rattle.format.specs.Result.{Result, map-result}
+use Rattle.format.specs.Result.Result.{refused, accepted}
+use Rattle.format.specs.Format.{read}
+use Rattle.causes.specs.Ordered.{ordered, Judged}
+use Rattle.reader.specs.declared.verdict.Header.{Header}
+use Rattle.reader.specs.Verdict.{header-of, says}
+use Rattle.orderer.specs.declared.Gathered.{Gathered}
+use Rattle.orderer.specs.declared.Gathered.the-variants.{Calm, Clash}
+use Rattle.orderer.specs.declared.Ordering.{Ordering}
+
+abbrev pub gathered : Bool → Gathered
+gathered false = Calm
+gathered true = Clash
+
+-- where the book passes, the masks hold the order that its rules force
+abbrev pub Gathered-order : List ℕ → Result Header → List ℕ → Type 0
+Gathered-order s (refused cause value) masks = Unit
+Gathered-order s (accepted h) masks = (b : Book) → ordered s ≡ accepted b → (lower : ℕ → ℕ → Bool) × Closed (b .rules) lower × Holds masks lower
+
+-- levels that fit every rule of a book: the inner names of each rule are of lower level than its right name, and all are below 64
+pub record Levels (levels : List ℕ) (b : Book) : Type 0 where
+  pub size : length levels ≡ 64
+  pub small : (x : ℕ) → x < 64 → getD levels x 0 < 64
+  pub fits : (ρ : Rule) → List·Memᴰ ρ (b .rules) → Fits (λ x. getD levels x 0) (name (ρ .right)) (shape ρ)
+
+-- the answer of the order check
+pub record Ordered (s : List ℕ) (r : Ordering) : Type 0 where
+  -- causes 1 to 8
+  pub verdict : says (r .verdict) ≡ map-result header-of (ordered s)
+  -- cause 8 is given exactly where there is no regular order, by the last rule of the shortest front part that has none
+  pub judged : (b : Book) → read s ≡ accepted b → Judged b (ordered s)
+  -- the levels fit where the book passes, and are 0 where it is refused
+  pub levels : (b : Book) → ordered s ≡ accepted b → Levels (r .levels) b
+  pub none : (cause value : ℕ) → ordered s ≡ refused cause value → r .levels ≡ replicate 64 0
