@@ -1,5 +1,6 @@
 pub mod Shape
 pub mod ShapeLaws
+pub mod ShapeForms
 pub mod Regular
 pub mod Leveled
 pub mod RoleOrder
