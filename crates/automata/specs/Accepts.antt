@@ -13,7 +13,7 @@ use Rattle.tables.specs.Path.{Path}
 use Rattle.tables.specs.Path.Path.{stop}
 use Rattle.tables.specs.Run.{Language}
 use Rattle.automata.specs.Every.{Every, every-nil, every-append, every-left, every-right}
-use Rattle.automata.specs.Named.{Named}
+use Rattle.roles.specs.Named.{Named}
 use Rattle.automata.specs.FromRun.{In, language-leads}
 use Rattle.automata.specs.Carried.{Property, Split, glue, Agree, agree-self, agree-below, agree-from, Carries, carried, Fits}
 use Rattle.automata.specs.Carried.Split.{split}

@@ -15,7 +15,7 @@ use Rattle.tables.specs.Tables.{Transition, state, has-symmetric, has-transitiv
 use Rattle.tables.specs.Run.{Spelled, Run, Language}
 use Rattle.tables.specs.Run.Run.{stop, letter, second, back, through}
 use Rattle.automata.specs.Every.{Every, every-nil, every-cons, every-append, every-if}
-use Rattle.automata.specs.Named.{Named}
+use Rattle.roles.specs.Named.{Named}
 use Rattle.automata.specs.NamedLaws.{InnerBelow, below-shapes, role-letter, inv-letter}
 use Rattle.automata.specs.Carried.{Property, transfer, Split, glue, Agree, agree-below, agree-from, Carries, carries-silent, carries-letter, Fits}
 use Rattle.automata.specs.Carried.Split.{split}

@@ -16,7 +16,7 @@ use Rattle.tables.specs.Run.{Spelled, Run, Language}
 use Rattle.tables.specs.Run.Spelled.{none, more}
 use Rattle.tables.specs.Run.Run.{stop, letter, second, back, through}
 use Rattle.automata.specs.Every.{Every, every-tail, every-left, every-right, every-if-in}
-use Rattle.automata.specs.Named.{Named}
+use Rattle.roles.specs.Named.{Named}
 use Rattle.automata.specs.NamedLaws.{RoleBelow, Below, InnerBelow, below-shapes, role-letter, inv-letter}
 
 module _ (ms : List Transition) where

@@ -1,5 +1,4 @@
 pub mod Every
-pub mod Named
 pub mod NamedLaws
 pub mod FromRun
 pub mod Carried

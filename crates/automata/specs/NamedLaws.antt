@@ -12,7 +12,7 @@ use Rattle.order.specs.Shape.{Shape, shape, leads, trails}
 use Rattle.order.specs.Shape.Shape.{transitive, symmetric, row}
 use Rattle.tables.specs.Tables.{epsilon, rules-of, own-shapes, shapes, has-symmetric}
 use Rattle.automata.specs.Every.{cond-both, Every, every-nil, every-cons, every-tail, every-append}
-use Rattle.automata.specs.Named.{Named}
+use Rattle.roles.specs.Named.{Named}
 
 module _ (n : ℕ) where
   -- a role's name is below n

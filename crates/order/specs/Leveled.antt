@@ -26,5 +26,5 @@ Fits level x s = Lower (λ (y z : ℕ). level y < level z) x s
 -- levels below n that fit every rule
 pub record Leveled (n : ℕ) (ρs : List Rule) : Type 0 where
   pub level : ℕ → ℕ
-  pub small : (x : ℕ) → level x < n
+  pub small : (x : ℕ) → x < n → level x < n
   pub fits : (ρ : Rule) → List·Memᴰ ρ ρs → Fits level (name (ρ .right)) (shape ρ)

@@ -9,3 +9,4 @@ pub mod ClosureLaws
 pub mod Decide
 pub mod Mask
 pub mod MaskLaws
+pub mod LeveledLaws

@@ -121,9 +121,10 @@ AllApart r symmetric = Unit
 AllApart r (row from to inner) = Apart r inner
 
 pub apart-inverse : (r : ℕ) (inner : Chain) → Apart r inner → Apart (inv r) (inv-chain inner)
-apart-inverse r inner a =
-    (inv-chain-some inner (a .0),
-    λ s m e. a .1 (inv s) (inv-chain-member s inner m) (name-inv s ∙ (e ∙ name-inv r)))
+apart-inverse r inner a = (
+  inv-chain-some inner (a .0),
+  λ s m e. a .1 (inv s) (inv-chain-member s inner m) (name-inv s ∙ (e ∙ name-inv r)),
+)
 
 pub shape-inverse : (ρ : Rule) → AllApart (ρ .right) (shape ρ) → shape (inverse ρ) ≡ turned (shape ρ)
 unfolding inverse
@@ -133,7 +134,7 @@ shape-inverse ρ = by-view (view ρ)
     by-view (is-transitive e) a = shape-twice (inverse ρ) (rw (e, inv-chain-cons, inv-chain-one) refl)
     by-view (is-symmetric e) a = shape-turned (inverse ρ) (rw (e, inv-chain-one) refl)
     by-view (is-led inner e some x) a =
-      shape-trailed (inverse ρ) (inv-chain inner) (ap inv-chain e ∙ inv-chain-cons (ρ .right) inner) (apart-inverse (ρ .right) inner a)
+        shape-trailed (inverse ρ) (inv-chain inner) (ap inv-chain e ∙ inv-chain-cons (ρ .right) inner) (apart-inverse (ρ .right) inner a)
     by-view (is-trailed inner e some x y) a =
-      shape-led (inverse ρ) (inv-chain inner) (rw (e, inv-chain-append inner (ρ .right ∷ []), inv-chain-one) refl) (apart-inverse (ρ .right) inner a)
+        shape-led (inverse ρ) (inv-chain inner) (rw (e, inv-chain-append inner (ρ .right ∷ []), inv-chain-one) refl) (apart-inverse (ρ .right) inner a)
     by-view (is-plain x y z w) a = shape-plain (inverse ρ) (inv-chain (ρ .left)) refl (apart-inverse (ρ .right) (ρ .left) a)

@@ -4,4 +4,5 @@ pub mod RoleLaws
 pub mod PartLaws
 pub mod Rule
 pub mod RuleLaws
+pub mod Named
 pub mod Derivation

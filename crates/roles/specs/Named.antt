@@ -1,7 +1,7 @@
--- Rules over the names below a number.
+-- Rules over the names below n.
 use mathlib.Core.List.{List, List·Memᴰ}
 use Prim.Native.Nat.{ℕ, _*_, _<_}
 use Rattle.roles.specs.Rule.{Rule}
 
 -- every role of the rules has a name below n
 abbrev pub Named : ℕ → List Rule → Type 0

@@ -1,0 +1,73 @@
+-- Rules that have a regular order have levels: the level of a name is how many names are lower.
+use mathlib.Core.Bool.{Bool, true, false, true≢false}
+use mathlib.Core.List.{List, [], _∷_, List·Memᴰ, List·Memᴰ·not-nil}
+use mathlib.Core.List.List·Memᴰ.{List·Memᴰ·head, List·Memᴰ·tail}
+use mathlib.Core.List.{Memᴰ·append-left, _++_}
+use mathlib.Core.Path.{_≡_, refl, sym, ap, _∙_, subst}
+use Prim.Native.Nat.{ℕ, zero, suc, _+_, _*_, _<_, _≤_}
+use native.Mathlib.Omega.{arith}
+use Rattle.roles.specs.Tests.{not-true-false}
+use Rattle.roles.specs.Role.{Chain, name}
+use Rattle.roles.specs.Rule.{Rule}
+use Rattle.roles.specs.Named.{Named}
+use Rattle.order.specs.Shape.{Shape, shape}
+use Rattle.order.specs.Shape.Shape.{transitive, symmetric, row}
+use Rattle.order.specs.ShapeLaws.{View, view}
+use Rattle.order.specs.ShapeLaws.View.{is-transitive, is-symmetric, is-led, is-trailed, is-plain}
+use Rattle.order.specs.Regular.{holds, Regular}
+use Rattle.order.specs.RoleOrder.{lower-of, turning, name-order}
+use Rattle.order.specs.Leveled.{Lower, NameOrder, Fits, Leveled}
+use Rattle.order.specs.Closure.{inner-of}
+use Rattle.order.specs.ClosureLaws.{Closed}
+use Rattle.order.specs.Decide.{order-closed}
+use Rattle.order.specs.Mask.{bit, count}
+use Rattle.order.specs.MaskLaws.{count-lt}
+
+-- the inner roles of a rule are among its left roles
+pub inner-left : (ρ : Rule) (s : ℕ) → List·Memᴰ s (inner-of (shape ρ)) → List·Memᴰ s (ρ .left)
+inner-left ρ s = by-view (view ρ)
+  where
+    by-view : {sh : Shape} → View ρ sh → List·Memᴰ s (inner-of sh) → List·Memᴰ s (ρ .left)
+    by-view (is-transitive e) m = absurd (List·Memᴰ·not-nil m)
+    by-view (is-symmetric e) m = absurd (List·Memᴰ·not-nil m)
+    by-view (is-led inner e some x) m = rw e (List·Memᴰ·tail m)
+    by-view (is-trailed inner e some x y) m = rw e (Memᴰ·append-left (ρ .right ∷ []) m)
+    by-view (is-plain x y z w) m = m
+
+count-all : (d : ℕ) → count d (λ k. true) ≡ d
+unfolding count
+count-all zero = refl
+count-all (suc d) = rw (count-all d) (omega arith)
+
+-- a test that fails once passes less often than all
+pub count-less : (d : ℕ) (P : ℕ → Bool) (z : ℕ) → z < d → P z ≡ false → count d P < d
+count-less d P z h e = rw count-all at (count-lt d P (λ k. true) (λ k p q. refl) z h e refl)
+
+module _ (n : ℕ) (ρs : List Rule) (lower : ℕ → ℕ → Bool) (o : NameOrder (holds lower) ρs) where
+  not-own : (x : ℕ) → lower x x ≡ false
+  not-own x = not-true-false (lower x x) (o .irreflexive x)
+
+  pub rank-lower : (y x : ℕ) → y < n → holds lower y x → count n (λ z. lower z y) < count n (λ z. lower z x)
+  rank-lower y x h l = count-lt n (λ z. lower z y) (λ z. lower z x) (λ z p q. o .transitive z y x q l) y h (not-own y) l
+
+  pub rank-small : (x : ℕ) → x < n → count n (λ y. lower y x) < n
+  rank-small x h = count-less n (λ y. lower y x) x h (not-own x)
+
+  rank-fits : (x : ℕ) (sh : Shape) → ((s : ℕ) → List·Memᴰ s (inner-of sh) → name s < n) → Lower (holds lower) x sh → Fits (λ (y : ℕ). count n (λ z. lower z y)) x sh
+  rank-fits x transitive named l = tt
+  rank-fits x symmetric named l = tt
+  rank-fits x (row f t w) named l = (l .0, λ s m. rank-lower (name s) x (named s m) (l .1 s m))
+
+  pub order-leveled : Named n ρs → Leveled n ρs
+  unfolding name
+  order-leveled named =
+      record {
+        level = λ x. count n (λ y. lower y x);
+        small = rank-small;
+        fits = λ ρ m. rank-fits (name (ρ .right)) (shape ρ) (λ s i. let h : s < 2 * n = named ρ m .1 s (inner-left ρ s i) in omega arith) (o .inner ρ m);
+      }
+
+pub regular-leveled : (n : ℕ) (ρs : List Rule) → Named n ρs → Regular ρs → Leveled n ρs
+regular-leveled n ρs named r =
+    let c = order-closed (lower-of (holds (r .below))) ρs (name-order (holds (r .below)) (turning (holds (r .below)) (r .order)) ρs (r .forms)) in
+    order-leveled n ρs (c .0) (c .1 .order) named
