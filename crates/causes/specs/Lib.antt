@@ -1,2 +1,4 @@
 pub mod Ordered
 pub mod OrderedLaws
+pub mod Built
+pub mod GatherLaws

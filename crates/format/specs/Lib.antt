@@ -7,3 +7,4 @@ pub mod RunLaws
 pub mod DecodeLaws
 pub mod RepeatLaws
 pub mod NamedLaws
+pub mod ReadLaws

@@ -10,3 +10,8 @@ pub mod Decide
 pub mod Mask
 pub mod MaskLaws
 pub mod LeveledLaws
+pub mod ReachLaws
+pub mod AbsorbLaws
+pub mod ShapeTests
+pub mod CountLaws
+pub mod LevelLaws

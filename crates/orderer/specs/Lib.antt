@@ -1,2 +1,6 @@
 pub mod Shape
 pub mod Gather
+pub mod ShapeLaws
+pub mod AddLaws
+pub mod GatherLaws
+pub mod OrderLaws

@@ -1,0 +1,58 @@
+-- `counted` meets its contract. The invariant: the levels passed count the names of their masks.
+use mathlib.Core.Path.{refl}
+use Prim.Native.Nat.{_≤_, _-_}
+use native.Mathlib.Omega.{arith}
+use borrow.Author.Needs.{needs}
+use lib.Count.{ones-le}
+use Rattle.order.specs.CountLaws.{Counting, counting-start, counting-next}
+use Rattle.orderer.proofs.counted.Statement.{statement}
+use Rattle.orderer.proofs.counted.Tie as tie
+
+abbrev Inv-loop : tie.InvT-loop
+Inv-loop masks levels₀ x₀ levels x = (x ≤ 64) × Counting masks levels x
+
+abbrev μ-loop : tie.MeasureT-loop
+μ-loop masks levels₀ x₀ levels x = 64 - x
+
+loop-holds : tie.Need-loop-holds Inv-loop μ-loop
+loop-holds c = (omega arith, counting-start _ _ refl)
+
+mul-levels : tie.Need-mul-levels Inv-loop μ-loop
+mul-levels c = search needs
+
+shared-slice-read-levels : tie.Need-shared-slice-read-levels Inv-loop μ-loop
+shared-slice-read-levels c = search needs
+
+cast-levels : tie.Need-cast-levels Inv-loop μ-loop
+cast-levels c = omega (arith, ones-le 64 _ (c .shared-slice-known .given (c .before .before .loop .x) .fits))
+
+array-write-levels : tie.Need-array-write-levels Inv-loop μ-loop
+array-write-levels c = search needs
+
+add-x : tie.Need-add-x Inv-loop μ-loop
+add-x c = search needs
+
+loop-less : tie.Need-loop-less Inv-loop μ-loop
+loop-less c = search needs
+
+loop-again : tie.Need-loop-again Inv-loop μ-loop
+loop-again c = (omega arith, counting-next _ _ _ (c .before .loop-test .taken) (c .shared-slice-known .given (c .before .before .loop .x) .fits) (c .before .before .loop .inv .1))
+
+returns : tie.Need-returns Inv-loop μ-loop
+returns c = (c .before .loop .inv .1 .size, λ x p. c .before .loop .inv .1 .past x (omega arith))
+
+pub counted-spec : {M : Type 1} → statement M
+counted-spec =
+    tie.close
+    (tie.spec
+    Inv-loop
+    μ-loop
+    loop-holds
+    mul-levels
+    shared-slice-read-levels
+    cast-levels
+    array-write-levels
+    add-x
+    loop-less
+    loop-again
+    returns)

@@ -1,0 +1,110 @@
+-- The gathering over a book's bytes as the loop runs it: the masks after k rules hold the order that these force.
+use mathlib.Core.Bool.{Bool, true, false}
+use mathlib.Core.List.{List, _∷_}
+use mathlib.Core.Path.{_≡_, refl, sym, ap, _∙_}
+use Prim.Native.Nat.{ℕ, _+_, _-_, _<_, _≤_}
+use native.Mathlib.Omega.{arith}
+use lib.ListN.{length, take, drop}
+use Rattle.roles.specs.Rule.{Rule, Book}
+use Rattle.roles.specs.RuleLaws.{rule-path}
+use Rattle.order.specs.Closure.{no-order, with-rule, clashes}
+use Rattle.order.specs.Mask.{Holds}
+use Rattle.format.specs.Result.{Result, map-result}
+use Rattle.format.specs.Result.Result.{refused, accepted}
+use Rattle.format.specs.ResultLaws.{refused-accepted, accepted-injective}
+use Rattle.format.specs.Format.{named, read}
+use Rattle.format.specs.Place.{rule-at, whole-at, rule-place}
+use Rattle.format.specs.ReadLaws.{read-whole, read-rule, read-named, read-some}
+use Rattle.causes.specs.Ordered.{ordered}
+use Rattle.causes.specs.GatherLaws.{Gathering, gathering-start, gathering-next, gathering-clash, gathering-end, gathering-closed, ordered-from, ordered-read}
+use Rattle.reader.specs.declared.cursor.Cursor.{Cursor}
+use Rattle.reader.specs.declared.cursor.Entry.{Entry}
+use Rattle.reader.specs.declared.verdict.Header.{Header}
+use Rattle.reader.specs.Cursor.{entry-rule}
+use Rattle.reader.specs.CursorLaws.{AtRule, entry-part}
+use Rattle.reader.specs.Verdict.{header-of}
+use Rattle.orderer.specs.declared.Gathered.{Gathered}
+use Rattle.orderer.specs.declared.Gathered.the-variants.{Calm, Clash}
+use Rattle.orderer.specs.Gather.{gathered, Gathered-order}
+use Rattle.orderer.specs.AddLaws.{Added}
+
+-- what adding a rule answered
+gathered-calm : (t : Bool) (r : Gathered) → r ≡ gathered t → r ≡ Calm → t ≡ false
+gathered-calm true r h k = absurd (let z : _≡_ {A = ℕ} 0 1 = cc in let f : ⊥ = omega arith in f)
+gathered-calm false r h k = refl
+
+gathered-clash : (t : Bool) (r : Gathered) → r ≡ gathered t → r ≡ Clash → t ≡ true
+gathered-clash true r h k = refl
+gathered-clash false r h k = absurd (let z : _≡_ {A = ℕ} 0 1 = cc in let f : ⊥ = omega arith in f)
+
+-- the rule that the loop hands on is rule k
+pub handed-rule : (s : List ℕ) (k : ℕ) (e : Entry) (next : Cursor) → AtRule s k e next
+    → record { left = take (e .start + e .size - e .start) (drop (e .start) s); right = e .right } ≡ rule-at s (rule-place s k)
+unfolding entry-rule
+handed-rule s k e next a = rule-path _ _ (entry-part s e) refl ∙ a .rule
+
+-- the masks after k rules
+abbrev pub Gathers : List ℕ → List ℕ → ℕ → Type 0
+Gathers s masks k = (b : Book) → read s ≡ accepted b → (lower : ℕ → ℕ → Bool) × Gathering b k lower × Holds masks lower
+
+pub gathers-start : (s masks : List ℕ) → Holds masks no-order → Gathers s masks 0
+gathers-start s masks h b e = (no-order, gathering-start b, h)
+
+-- a well-formed book, by its header
+module _ (s : List ℕ) (h : Header) (pre : map-result header-of (read s) ≡ accepted h) where
+  some-book : (b : Book) × (read s ≡ accepted b)
+  some-book = by-result (read s) refl pre
+    where
+      by-result : (r : Result Book) → read s ≡ r → map-result header-of r ≡ accepted h → (b : Book) × (read s ≡ accepted b)
+      by-result (refused c v) q e = absurd (refused-accepted c v h e)
+      by-result (accepted b) q e = (b, q)
+
+  head : (b : Book) → read s ≡ accepted b → header-of b ≡ h
+  head b i = accepted-injective (header-of b) h (sym (ap (map-result header-of) i) ∙ pre)
+
+  rules : (b : Book) → read s ≡ accepted b → length (b .rules) ≡ h .rules
+  rules b i = ap (λ (x : Header). x .rules) (head b i)
+
+  module _ (k : ℕ) (p : k < h .rules) where
+    within : (b : Book) (i : read s ≡ accepted b) → k < length (b .rules)
+    within b i = rw (rules b i) p
+
+    pub whole-rule : whole-at s (rule-place s k) ≡ true
+    whole-rule = read-whole s (some-book .0) (some-book .1) k (within (some-book .0) (some-book .1))
+
+    -- rule k, and what adding it answered and left
+    module _ (ρ : Rule) (e : ρ ≡ rule-at s (rule-place s k)) where
+      pub named-rule : named 64 (ρ .right ∷ ρ .left) ≡ true
+      named-rule = read-named s (some-book .0) (some-book .1) k (within (some-book .0) (some-book .1)) ρ e
+
+      module _ (masks new : List ℕ) (r : Gathered) (a : Added ρ masks r new) (g : Gathers s masks k) where
+        pub gathers-next : r ≡ Calm → Gathers s new (k + 1)
+        gathers-next q b i =
+            let l = g b i in
+            let m = a (l .0) (l .2) in
+            let calm : clashes (l .0) ρ ≡ false = gathered-calm _ r (m .0) q in (
+              with-rule (l .0) ρ,
+              gathering-next b k (l .0) (l .1) (within b i) ρ (read-rule s b i k (within b i) ρ e) (read-some s b i k (within b i) ρ e) calm,
+              m .1 calm,
+            )
+
+        pub gathers-clash : r ≡ Clash → refused 8 k ≡ map-result header-of (ordered s)
+        gathers-clash q =
+            let b = some-book .0 in
+            let i = some-book .1 in
+            let l = g b i in
+            let clash : clashes (l .0) ρ ≡ true = gathered-clash _ r (a (l .0) (l .2) .0) q in
+            rw (ordered-from s b i, gathering-clash b k (l .0) (l .1) (within b i) ρ (read-rule s b i k (within b i) ρ e) clash) refl
+
+  pub gathers-end : (masks : List ℕ) (k : ℕ) → h .rules ≤ k → Gathers s masks k
+      → (accepted h ≡ map-result header-of (ordered s)) × Gathered-order s (accepted h) masks
+  gathers-end masks k p g = (
+    rw passed (sym (ap accepted (head (some-book .0) (some-book .1)))),
+    λ b e. let l = g b (ordered-read s b e) in (l .0, gathering-closed b k (l .0) (l .1) (rw (rules b (ordered-read s b e)) p), l .2),
+  )
+    where
+      passed : ordered s ≡ accepted (some-book .0)
+      passed =
+          let b = some-book .0 in
+          let i = some-book .1 in
+          ordered-from s b i ∙ gathering-end b k (g b i .0) (g b i .1) (rw (rules b i) p)

@@ -1,0 +1,53 @@
+-- The whole answer of the order check: refused with levels of 0, or passed with levels that fit.
+use mathlib.Core.List.{List, List·Memᴰ·tail}
+use mathlib.Core.Path.{_≡_, refl, sym, ap, _∙_, subst}
+use Prim.Native.Nat.{ℕ, _<_}
+use lib.ListN.{length, getD, replicate}
+use Rattle.roles.specs.Rule.{Book}
+use Rattle.order.specs.Mask.{has, count}
+use Rattle.order.specs.LevelLaws.{levels-small, levels-fit}
+use Rattle.format.specs.Result.{Result, map-result}
+use Rattle.format.specs.Result.Result.{refused, accepted}
+use Rattle.format.specs.ResultLaws.{refused-accepted}
+use Rattle.format.specs.ReadLaws.{named-name, named-member, rules-named}
+use Rattle.causes.specs.Ordered.{ordered}
+use Rattle.causes.specs.GatherLaws.{ordered-judged, ordered-read}
+use Rattle.reader.specs.declared.verdict.Header.{Header}
+use Rattle.reader.specs.declared.verdict.Verdict.{Verdict}
+use Rattle.reader.specs.Verdict.{header-of, says}
+use Rattle.orderer.specs.Gather.{Gathered-order, Levels, Ordered}
+
+module _ (s : List ℕ) (v : Verdict) (e : says v ≡ map-result header-of (ordered s)) where
+  pub order-refused : (c n : ℕ) → says v ≡ refused c n → Ordered s (record { verdict = v; levels = replicate 64 0 })
+  order-refused c n r =
+      record {
+        verdict = e;
+        judged = ordered-judged s;
+        levels = λ b q. absurd (refused-accepted c n (header-of b) (sym r ∙ e ∙ ap (map-result header-of) q));
+        none = λ _ _ _. refl;
+      }
+
+  -- masks that hold the gathered order, counted
+  module _ (h : Header) (r : says v ≡ accepted h) (masks levels : List ℕ) (g : Gathered-order s (says v) masks) (size : length levels ≡ 64)
+      (l : (x : ℕ) → x < 64 → getD levels x 0 ≡ count 64 (has (getD masks x 0))) where
+    fitting : (b : Book) → ordered s ≡ accepted b → Levels levels b
+    fitting b q =
+        let k = subst (λ (t : Result Header). Gathered-order s t masks) r g b q in
+        let w = rules-named s b (ordered-read s b q) in
+        record {
+          size = size;
+          small = levels-small (b .rules) (k .0) (k .1) masks (k .2) levels l;
+          fits =
+              λ ρ m.
+              levels-fit (b .rules) (k .0) (k .1) masks (k .2) levels l ρ m (named-name 64 (ρ .right) (ρ .left) (w ρ m))
+              (λ t i. named-member 64 _ (w ρ m) t (List·Memᴰ·tail i));
+        }
+
+    pub order-passed : Ordered s (record { verdict = v; levels = levels })
+    order-passed =
+        record {
+          verdict = e;
+          judged = ordered-judged s;
+          levels = fitting;
+          none = λ c n q. absurd (refused-accepted c n h (sym (sym r ∙ e ∙ ap (map-result header-of) q)));
+        }
