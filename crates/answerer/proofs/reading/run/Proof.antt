@@ -1,0 +1,125 @@
+-- `run` meets its contract. The invariant: some state of the set has a path along the links from i on exactly where the head has one along all.
+use mathlib.Core.Path.{_≡_}
+use Prim.Native.Nat.{_≤_, _+_, _-_}
+use native.Mathlib.Omega.{arith}
+use lib.ListN.{length}
+use Rattle.queries.specs.Query.{asked}
+use Rattle.simulation.specs.AskedLaws.{asked-letter, read-link, read-asked}
+use Rattle.simulation.specs.Reading.{Read}
+use Rattle.simulation.specs.ReadingLaws.{read-start}
+use Rattle.simulation.specs.StatesLaws.{states-none}
+use Rattle.answerer.proofs.reading.run.Statement.{statement}
+use Rattle.answerer.proofs.reading.run.Tie as tie
+
+abbrev Inv-loop : tie.InvT-loop
+Inv-loop moves index role chain head states₀ others₀ size started count₀ i₀ states others count i =
+    (i ≤ length chain) × ((length others ≡ 4096) × Read moves head (asked role chain) i states count)
+
+abbrev μ-loop : tie.MeasureT-loop
+μ-loop moves index role chain head states₀ others₀ size started count₀ i₀ states others count i = length chain - i
+
+put-requires : tie.Need-put-requires Inv-loop μ-loop
+put-requires c κs = (states-none _ (c .before .before .before .before .before .before .pre .1 .1 .1 .0), omega (arith, c .before .before .before .before .before .before .pre .1 .1 .0))
+
+close-requires : tie.Need-close-requires Inv-loop μ-loop
+close-requires c κs = (c .before .before .before .before .before .before .before .before .before .before .pre .0, c .before .before .before .put .ensures .added .good)
+
+loop-holds : tie.Need-loop-holds Inv-loop μ-loop
+loop-holds c = (omega arith, (c .before .before .before .before .before .before .before .before .before .before .before .before .before .pre .1 .1 .1 .1, read-start _ _ _ _ _ _ (c .before .before .before .before .before .before .put .ensures) _ _ (c .before .before .close .ensures)))
+
+add-loop : tie.Need-add-loop Inv-loop μ-loop
+add-loop c = omega (arith, c .loop .inv .0, c .before .before .before .before .before .before .before .before .before .before .before .before .before .before .good)
+
+link-requires : tie.Need-link-requires Inv-loop μ-loop
+link-requires c κs = omega (arith, c .loop-test .taken)
+
+step-requires : tie.Need-step-requires Inv-loop μ-loop
+step-requires c κs = (c .before .before .before .before .before .before .before .before .before .before .before .before .before .before .before .before .before .before .pre .0, (asked-letter _ _ _ (omega (arith, c .before .before .before .loop-test .taken)) (c .before .before .before .before .before .before .before .before .before .before .before .before .before .before .before .before .before .before .pre .1 .0) _ (c .before .before .link .ensures), (c .before .before .before .before .loop .inv .1 .1 .good, (c .before .before .before .before .loop .inv .1 .1 .closed, c .before .before .before .before .loop .inv .1 .0))))
+
+add-link : tie.Need-add-link Inv-loop μ-loop
+add-link c = omega (arith, c .before .before .before .before .before .before .before .loop .inv .0, c .before .before .before .before .before .before .before .before .before .before .before .before .before .before .before .before .before .before .before .before .before .good)
+
+link-requires-2 : tie.Need-link-requires-2 Inv-loop μ-loop
+link-requires-2 c κs = omega (arith, c .before .before .before .before .before .before .loop-test .taken)
+
+step-requires-2 : tie.Need-step-requires-2 Inv-loop μ-loop
+step-requires-2 c κs = (c .before .before .before .before .before .before .before .before .before .before .before .before .before .before .before .before .before .before .before .before .before .before .before .before .pre .0, (asked-letter _ _ _ (omega (arith, c .before .before .before .before .before .before .before .before .before .loop-test .taken)) (c .before .before .before .before .before .before .before .before .before .before .before .before .before .before .before .before .before .before .before .before .before .before .before .before .pre .1 .0) _ (c .before .before .link2 .ensures), (c .before .before .before .before .before .step .ensures .good, (c .before .before .before .before .before .step .ensures .closed, c .before .before .before .before .before .before .before .before .before .before .loop .inv .1 .1 .good .size))))
+
+add-i : tie.Need-add-i Inv-loop μ-loop
+add-i c = omega (arith, c .before .before .before .before .before .before .before .before .before .before .before .before .loop-test .taken, c .before .before .before .before .before .before .before .before .before .before .before .before .before .before .before .before .before .before .before .before .before .before .before .before .before .before .before .good)
+
+loop-less : tie.Need-loop-less Inv-loop μ-loop
+loop-less c = omega (arith, c .before .before .before .before .before .before .before .before .before .before .before .before .loop-test .taken)
+
+loop-again : tie.Need-loop-again Inv-loop μ-loop
+loop-again c = let e : c .before .before .before .before .before .before .before .before .before .before .before .before .before .loop .i + 1 + 1 ≡ c .before .before .before .before .before .before .before .before .before .before .before .before .before .loop .i + 2 = omega arith in
+    let one = read-link _ _ _ (omega (arith, c .before .before .before .before .before .before .before .before .before .before .before .before .loop-test .taken)) _ _ _ _ _ _ _ (c .before .before .before .before .before .before .before .before .before .before .before .before .before .loop .inv .1 .1) (c .before .before .before .before .before .before .before .before .before .before .before .link .ensures) (c .before .before .before .before .before .before .before .before .step .ensures) in
+    let two = read-link _ _ _ (omega (arith, c .before .before .before .before .before .before .before .before .before .before .before .before .loop-test .taken)) _ _ _ _ _ _ _ one (c .before .before .before .before .before .link2 .ensures) (c .before .before .step2 .ensures) in
+    (omega (arith, c .before .before .before .before .before .before .before .before .before .before .before .before .loop-test .taken), (c .before .before .before .before .before .before .before .before .step .ensures .good .size, rw e at two))
+
+link-requires-3 : tie.Need-link-requires-3 Inv-loop μ-loop
+link-requires-3 c κs = omega (arith, c .if1 .taken)
+
+step-requires-3 : tie.Need-step-requires-3 Inv-loop μ-loop
+step-requires-3 c κs = (c .before .before .before .before .before .before .before .before .before .before .before .before .before .before .before .before .before .before .before .pre .0, (asked-letter _ _ _ (omega (arith, c .before .before .before .if1 .taken)) (c .before .before .before .before .before .before .before .before .before .before .before .before .before .before .before .before .before .before .before .pre .1 .0) _ (c .before .before .link3 .ensures), (c .before .before .before .before .before .loop .inv .1 .1 .good, (c .before .before .before .before .before .loop .inv .1 .1 .closed, c .before .before .before .before .before .loop .inv .1 .0))))
+
+add-contains : tie.Need-add-contains Inv-loop μ-loop
+add-contains c = omega (arith, c .before .before .before .before .before .before .before .before .before .before .before .before .before .before .before .before .before .before .before .before .before .before .before .pre .1 .1 .0)
+
+contains-requires : tie.Need-contains-requires Inv-loop μ-loop
+contains-requires c κs = (c .before .before .before .step3 .ensures .good, omega (arith, c .before .before .before .before .before .before .before .before .before .before .before .before .before .before .before .before .before .before .before .before .before .before .before .pre .1 .1 .0))
+
+same-length : tie.Need-same-length Inv-loop μ-loop
+same-length c = omega (arith, c .before .before .before .before .before .before .before .before .before .before .loop .inv .1 .1 .good .size, c .before .before .before .before .before .before .before .before .before .before .before .before .before .before .before .before .before .before .before .before .before .before .before .before .pre .1 .1 .1 .0)
+
+same-length-2 : tie.Need-same-length-2 Inv-loop μ-loop
+same-length-2 c = omega (arith, c .before .before .before .before .step3 .ensures .good .size, c .before .before .before .before .before .before .before .before .before .before .before .before .before .before .before .before .before .before .before .before .before .before .before .before .pre .1 .1 .1 .1)
+
+returns : tie.Need-returns Inv-loop μ-loop
+returns c = read-asked _ _ _ _ _ _ _ _ _ (read-link _ _ _ (c .before .before .before .before .before .before .before .before .if1 .taken) _ _ _ _ _ _ _ (c .before .before .before .before .before .before .before .before .before .before .loop .inv .1 .1) (c .before .before .before .before .before .before .before .link3 .ensures) (c .before .before .before .before .step3 .ensures)) (omega (arith, c .before .before .before .before .before .before .before .before .before .loop-test .left, c .before .before .before .before .before .before .before .before .if1 .taken)) (c .contains .ensures)
+
+add-contains-2 : tie.Need-add-contains-2 Inv-loop μ-loop
+add-contains-2 c = omega (arith, c .before .before .before .before .before .before .before .before .before .before .before .before .before .before .before .before .before .pre .1 .1 .0)
+
+contains-requires-2 : tie.Need-contains-requires-2 Inv-loop μ-loop
+contains-requires-2 c κs = (c .before .before .before .loop .inv .1 .1 .good, omega (arith, c .before .before .before .before .before .before .before .before .before .before .before .before .before .before .before .before .before .pre .1 .1 .0))
+
+same-length-3 : tie.Need-same-length-3 Inv-loop μ-loop
+same-length-3 c = omega (arith, c .before .before .before .before .loop .inv .1 .1 .good .size, c .before .before .before .before .before .before .before .before .before .before .before .before .before .before .before .before .before .before .pre .1 .1 .1 .0)
+
+same-length-4 : tie.Need-same-length-4 Inv-loop μ-loop
+same-length-4 c = omega (arith, c .before .before .before .before .loop .inv .1 .0, c .before .before .before .before .before .before .before .before .before .before .before .before .before .before .before .before .before .before .pre .1 .1 .1 .1)
+
+returns-2 : tie.Need-returns-2 Inv-loop μ-loop
+returns-2 c = read-asked _ _ _ _ _ _ _ _ _ (c .before .before .before .before .loop .inv .1 .1) (omega (arith, c .before .before .before .before .loop .inv .0, c .before .before .if1 .left)) (c .contains2 .ensures)
+
+pub run-spec : {M : Type 1} → statement M
+run-spec =
+    tie.close
+    (tie.spec
+    Inv-loop
+    μ-loop
+    put-requires
+    close-requires
+    loop-holds
+    add-loop
+    link-requires
+    step-requires
+    add-link
+    link-requires-2
+    step-requires-2
+    add-i
+    loop-less
+    loop-again
+    link-requires-3
+    step-requires-3
+    add-contains
+    contains-requires
+    same-length
+    same-length-2
+    returns
+    add-contains-2
+    contains-requires-2
+    same-length-3
+    same-length-4
+    returns-2)

@@ -1,0 +1,32 @@
+// What a question is answered with, and the number that document 01 gives each refusal.
+ghost use mathlib.Core.Path.{_≡_};
+ghost use Rattle.answerer.specs.Answer.{cause-of};
+
+pub enum QueryRefusal {
+    // Heads or moves that are no tables: too few or too many, or a number out of range.
+    Tables,
+    // An empty chain, or one of more than 1,024 links.
+    Chain,
+    // The role, or a link of the chain, has a name that the tables do not know.
+    Role,
+}
+
+pub enum Answer {
+    // Some path spells the chain.
+    Yes,
+    // No path does.
+    No,
+    // The question is refused; the value beside each of these causes is 0.
+    Refused(QueryRefusal),
+}
+
+// The number of the cause.
+pub fn cause(refusal: QueryRefusal) -> usize
+    ensures { λ r. ⌜ r ≡ cause-of refusal ⌝ }
+{
+    match refusal {
+        QueryRefusal::Tables => 12,
+        QueryRefusal::Chain => 13,
+        QueryRefusal::Role => 14,
+    }
+}

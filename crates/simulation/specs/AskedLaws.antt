@@ -1,0 +1,56 @@
+-- The chain that is asked, link by link: the chain itself or its inverse, and what is read of it.
+use mathlib.Core.Bool.{Bool, true, false, cond}
+use mathlib.Core.List.{List}
+use mathlib.Core.Logic.{_⊎_, inl, inr}
+use mathlib.Core.Path.{_≡_, refl, sym}
+use Prim.Native.Nat.{ℕ, _+_, _-_, _<_}
+use native.Mathlib.Omega.{arith}
+use lib.Dec.{eqb}
+use lib.ListN.{length, getD}
+use Rattle.roles.specs.Tests.{true-or-false}
+use Rattle.roles.specs.Role.{Chain, polarity, inv, inv-chain}
+use Rattle.roles.specs.RoleLaws.{getD-inv-chain, length-inv-chain, inv-below}
+use Rattle.queries.specs.Query.{asked}
+use Rattle.simulation.specs.Decides.{Decides}
+use Rattle.simulation.specs.States.{Member}
+use Rattle.simulation.specs.Reading.{Leads, Stepped, Read}
+use Rattle.simulation.specs.ReadingLaws.{read-more, read-decides}
+
+module _ (r : ℕ) (w : Chain) where
+  length-asked : length (asked r w) ≡ length w
+  unfolding asked
+  length-asked = by-test (eqb (polarity r) 1)
+    where
+      by-test : (t : Bool) → length (cond t (inv-chain w) w) ≡ length w
+      by-test true = length-inv-chain w
+      by-test false = refl
+
+  module _ (i : ℕ) (l : i < length w) where
+    pub asked-name : eqb (polarity r) 1 ≡ false → getD w i 0 ≡ getD (asked r w) i 0
+    unfolding asked
+    asked-name h = rw h refl
+
+    pub asked-inverse : eqb (polarity r) 1 ≡ true → inv (getD w (length w - 1 - i) 0) ≡ getD (asked r w) i 0
+    unfolding asked
+    asked-inverse h = rw h (sym (getD-inv-chain w i l))
+
+    -- its links are letters
+    pub asked-letter : ((k : ℕ) → k < length w → getD w k 0 < 128) → (a : ℕ) → a ≡ getD (asked r w) i 0 → a < 128
+    asked-letter h a e = rw e (by-test (true-or-false (eqb (polarity r) 1)))
+      where
+        by-test : (eqb (polarity r) 1 ≡ true) ⊎ (eqb (polarity r) 1 ≡ false) → getD (asked r w) i 0 < 128
+        by-test (inl t) = rw (← asked-inverse t) (inv-below (getD w (length w - 1 - i) 0) 64 (h (length w - 1 - i) (omega arith)))
+        by-test (inr t) = rw (← asked-name t) (h i l)
+
+    -- one more link is read
+    pub read-link : (moves : List ℕ) (p : ℕ) (s : List ℕ) (count : ℕ) (t : List ℕ) (more a : ℕ) → Read moves p (asked r w) i s count
+        → a ≡ getD (asked r w) i 0 → Stepped moves a s count t more → Read moves p (asked r w) (i + 1) t more
+    read-link moves p s count t more a so-far e step =
+        read-more moves p (asked r w) i s count t more so-far (rw length-asked l) (rw e at step)
+
+  -- every link is read
+  pub read-asked : (moves : List ℕ) (p i : ℕ) (s : List ℕ) (count u : ℕ) (b : Bool) → Read moves p (asked r w) i s count → i ≡ length w
+      → Decides b (Member s count u) → Decides b (Leads moves p (asked r w) u)
+  read-asked moves p i s count u b all e d =
+      let f : i ≡ length (asked r w) = rw length-asked e in
+      read-decides moves p (asked r w) s count (rw f at all) u b d

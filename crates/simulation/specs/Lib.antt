@@ -1,0 +1,13 @@
+pub mod Decides
+pub mod Pigeonhole
+pub mod States
+pub mod StatesLaws
+pub mod Transitions
+pub mod TransitionsLaws
+pub mod Index
+pub mod IndexLaws
+pub mod Reading
+pub mod ReadingLaws
+pub mod TablesLaws
+pub mod QueryLaws
+pub mod AskedLaws

@@ -1,0 +1,48 @@
+-- Laws of questions: the first refusal met, and what a question that cause 14 does not refuse says of its roles.
+use mathlib.Core.Bool.{true, false}
+use mathlib.Core.List.{List, _∷_}
+use mathlib.Core.Path.{_≡_, refl}
+use Prim.Native.Nat.{ℕ, zero, suc, _*_, _<_, _≤_}
+use native.Mathlib.Omega.{arith}
+use lib.ListN.{length, getD}
+use Rattle.roles.specs.Role.{Chain, name}
+use Rattle.format.specs.Result.Result.{refused, accepted}
+use Rattle.format.specs.Format.{named}
+use Rattle.format.specs.NamedLaws.{named-all, named-link}
+use Rattle.queries.specs.Query.{tables-fit, chain-fits, query}
+
+-- the first refusal met
+module _ (heads moves : List ℕ) (r : ℕ) (w : Chain) where
+  pub query-tables : tables-fit heads moves ≡ false → query heads moves r w ≡ refused 12 0
+  unfolding query
+  query-tables h = rw h refl
+
+  module _ (fit : tables-fit heads moves ≡ true) where
+    pub query-chain : chain-fits w ≡ false → query heads moves r w ≡ refused 13 0
+    unfolding query
+    query-chain h = rw (fit, h) refl
+
+    module _ (sized : chain-fits w ≡ true) where
+      pub query-role : named (length heads) (r ∷ w) ≡ false → query heads moves r w ≡ refused 14 0
+      unfolding query
+      query-role h = rw (fit, sized, h) refl
+
+      pub query-accepted : named (length heads) (r ∷ w) ≡ true → query heads moves r w ≡ accepted tt
+      unfolding query
+      query-accepted h = rw (fit, sized, h) refl
+
+-- the roles that are named
+module _ (n r : ℕ) (w : Chain) where
+  pub role-named : named n (r ∷ w) ≡ true → name r < n
+  unfolding name
+  role-named h = omega (arith, named-link n (r ∷ w) h 0 (omega arith))
+
+  pub link-named : n ≤ 64 → named n (r ∷ w) ≡ true → (k : ℕ) → k < length w → getD w k 0 < 128
+  link-named few h k l = omega (arith, named-link n (r ∷ w) h (suc k) (omega arith))
+
+  pub named-so : r < 2 * n → ((k : ℕ) → k < length w → getD w k 0 < 2 * n) → named n (r ∷ w) ≡ true
+  named-so h k = named-all n (r ∷ w) by-place
+    where
+      by-place : (i : ℕ) → i < suc (length w) → getD (r ∷ w) i 0 < 2 * n
+      by-place zero l = h
+      by-place (suc i) l = k i (omega arith)
