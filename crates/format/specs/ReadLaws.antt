@@ -1,6 +1,6 @@
 -- What causes 1 to 7 settle: cause 7 keeps the book as it was decoded, each of its rules has a left side, and all names are below 64.
 use mathlib.Core.Bool.{true, not}
-use mathlib.Core.List.{List, [], _∷_, _++_, append-nil, append-assoc, List·Memᴰ, List·Memᴰ·head, List·Memᴰ·cases-cons, List·Memᴰ·not-nil, List·Memᴰ·append-cases, List·Memᴰ·eq-of-singleton}
+use mathlib.Core.List.{List, [], _∷_, _++_, append-nil, append-assoc, List·Memᴰ, List·Memᴰ·head, List·Memᴰ·tail, List·Memᴰ·cases-cons, List·Memᴰ·not-nil, List·Memᴰ·append-cases, List·Memᴰ·eq-of-singleton}
 use mathlib.Core.Logic.{_⊎_, inl, inr}
 use mathlib.Core.Path.{_≡_, refl, sym, ap, _∙_, subst}
 use Prim.Native.Nat.{ℕ, zero, suc, _+_, _-_, _*_, _<_, _≤_}
@@ -11,6 +11,7 @@ use lib.ListN.{length, getD, length-take, length-drop}
 use Rattle.roles.specs.Tests.{and-left, and-right}
 use Rattle.roles.specs.Role.{Chain, name}
 use Rattle.roles.specs.PartLaws.{part, getD-part, length-part}
+use Rattle.roles.specs.Named.{Named}
 use Rattle.roles.specs.Rule.{Rule, Book}
 use Rattle.format.specs.Result.{Result, and-then}
 use Rattle.format.specs.Result.Result.{refused, accepted}
@@ -63,14 +64,18 @@ whole-left s at h e =
 named-more : (n m : ℕ) (w : Chain) → n ≤ m → named n w ≡ true → named m w ≡ true
 named-more n m w h e = named-all m w (λ k p. let q : getD w k 0 < 2 * n = named-link n w e k p in omega arith)
 
-pub named-member : (n : ℕ) (w : Chain) → named n w ≡ true → (r : ℕ) → List·Memᴰ r w → name r < n
-unfolding named name
-named-member n [] h r m = absurd (List·Memᴰ·not-nil m)
-named-member n (t ∷ w) h r m = by-place (named-member n w (and-right (ltb t (2 * n)) (named n w) h) r) (List·Memᴰ·cases-cons m)
+role-below : (n : ℕ) (w : Chain) → named n w ≡ true → (r : ℕ) → List·Memᴰ r w → r < 2 * n
+unfolding named
+role-below n [] h r m = absurd (List·Memᴰ·not-nil m)
+role-below n (t ∷ w) h r m = by-place (role-below n w (and-right (ltb t (2 * n)) (named n w) h) r) (List·Memᴰ·cases-cons m)
   where
-    by-place : (List·Memᴰ r w → name r < n) → (r ≡ t) ⊎ List·Memᴰ r w → name r < n
+    by-place : (List·Memᴰ r w → r < 2 * n) → (r ≡ t) ⊎ List·Memᴰ r w → r < 2 * n
     by-place rest (inl e) = omega (arith, ltb-true t (2 * n) (and-left (ltb t (2 * n)) (named n w) h))
     by-place rest (inr k) = rest k
+
+pub named-member : (n : ℕ) (w : Chain) → named n w ≡ true → (r : ℕ) → List·Memᴰ r w → name r < n
+unfolding name
+named-member n w h r m = omega (arith, role-below n w h r m)
 
 -- of a right role and a left side: the right name, and the roles of a part of the left side
 module _ (n r : ℕ) (w : Chain) (h : named n (r ∷ w) ≡ true) where
@@ -115,3 +120,19 @@ module _ (s : List ℕ) (b : Book) (h : read s ≡ accepted b) where
 
   pub rules-some : (ρ : Rule) → List·Memᴰ ρ (b .rules) → ρ .left ≡ [] → ⊥
   rules-some ρ m = let r = place ρ m in read-some (r .0) (r .1) ρ (r .2)
+
+  -- it has 1 to 64 names, its roles are over them, and it has at most 256 rules
+  own-named : (ρ : Rule) → List·Memᴰ ρ (b .rules) → named (b .names) (ρ .right ∷ ρ .left) ≡ true
+  own-named ρ m = let r = place ρ m in rw (r .2) (d .named (r .0) (within (r .0) (r .1)))
+
+  pub read-names : Named (b .names) (b .rules)
+  read-names ρ m = (
+    role-below (b .names) (ρ .right ∷ ρ .left) (own-named ρ m) (ρ .right) (List·Memᴰ·head refl),
+    λ t i. role-below (b .names) (ρ .right ∷ ρ .left) (own-named ρ m) t (List·Memᴰ·tail i),
+  )
+
+  pub read-some-name : 1 ≤ b .names
+  read-some-name = d .some-name
+
+  pub read-few-names : b .names ≤ 64
+  read-few-names = d .names-most

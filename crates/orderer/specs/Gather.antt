@@ -29,10 +29,12 @@ abbrev pub Gathered-order : List ℕ → Result Header → List ℕ → Type 0
 Gathered-order s (refused cause value) masks = Unit
 Gathered-order s (accepted h) masks = (b : Book) → ordered s ≡ accepted b → (lower : ℕ → ℕ → Bool) × Closed (b .rules) lower × Holds masks lower
 
--- levels that fit every rule of a book: the inner names of each rule are of lower level than its right name, and all are below 64
+-- levels that fit every rule of a book: the inner names of each rule are of lower level than its right name, all are below 64, and those of the
+-- book's names below their number
 pub record Levels (levels : List ℕ) (b : Book) : Type 0 where
   pub size : length levels ≡ 64
   pub small : (x : ℕ) → x < 64 → getD levels x 0 < 64
+  pub few : (x : ℕ) → x < b .names → getD levels x 0 < b .names
   pub fits : (ρ : Rule) → List·Memᴰ ρ (b .rules) → Fits (λ x. getD levels x 0) (name (ρ .right)) (shape ρ)
 
 -- the answer of the order check

@@ -5,11 +5,11 @@ use Prim.Native.Nat.{ℕ, _<_}
 use lib.ListN.{length, getD, replicate}
 use Rattle.roles.specs.Rule.{Book}
 use Rattle.order.specs.Mask.{has, count}
-use Rattle.order.specs.LevelLaws.{levels-small, levels-fit}
+use Rattle.order.specs.LevelLaws.{levels-small, levels-few, levels-fit}
 use Rattle.format.specs.Result.{Result, map-result}
 use Rattle.format.specs.Result.Result.{refused, accepted}
 use Rattle.format.specs.ResultLaws.{refused-accepted}
-use Rattle.format.specs.ReadLaws.{named-name, named-member, rules-named}
+use Rattle.format.specs.ReadLaws.{read-names, read-few-names, named-name, named-member, rules-named}
 use Rattle.causes.specs.Ordered.{ordered}
 use Rattle.causes.specs.GatherLaws.{ordered-judged, ordered-read}
 use Rattle.reader.specs.declared.verdict.Header.{Header}
@@ -37,6 +37,9 @@ module _ (s : List ℕ) (v : Verdict) (e : says v ≡ map-result header-of (orde
         record {
           size = size;
           small = levels-small (b .rules) (k .0) (k .1) masks (k .2) levels l;
+          few =
+              levels-few (b .rules) (k .0) (k .1) masks (k .2) levels l (b .names) (read-few-names s b (ordered-read s b q))
+              (read-names s b (ordered-read s b q));
           fits =
               λ ρ m.
               levels-fit (b .rules) (k .0) (k .1) masks (k .2) levels l ρ m (named-name 64 (ρ .right) (ρ .left) (w ρ m))
