@@ -18,24 +18,12 @@ use Rattle.tables.specs.Run.{Spelled, Language}
 use Rattle.tables.specs.Run.Spelled.{none, more}
 use Rattle.tables.specs.Run.Run.{stop, letter, back, through}
 use Rattle.languages.specs.Replacing.{Replaces}
-use Rattle.languages.specs.Shapes.{Shaped, shape-shaped, fits-inverse}
+use Rattle.languages.specs.Shapes.{Shaped, shape-shaped, completed-fits}
 use Rattle.languages.specs.RoleShapes.{member-has-symmetric, member-has-transitive, rule-own-shape, shapes-own, shapes-turned}
 use Rattle.languages.specs.Runs.{Parts, spelled-map, spelled-append, spelled-cons, spelled-split, one-spelled}
 use Rattle.languages.specs.Runs.{run-append, run-row, run-turned, language-more}
 
 module _ (n : ℕ) (ρs : List Rule) (l : Leveled n ρs) where
-  -- levels fit the completed rules too
-  completed-fits : (ρ : Rule) → List·Memᴰ ρ (completion ρs) → Fits (l .level) (name (ρ .right)) (shape ρ)
-  unfolding completion
-  completed-fits ρ m = by-part (List·Memᴰ·append-cases ρs m)
-    where
-      mirrored : (σ : Rule) × List·Memᴰ σ ρs × (inverse σ ≡ ρ) → Fits (l .level) (name (ρ .right)) (shape ρ)
-      mirrored t = subst (λ x. Fits (l .level) (name (x .right)) (shape x)) (t .2) (fits-inverse (l .level) (t .0) (l .fits (t .0) (t .1)))
-
-      by-part : List·Memᴰ ρ ρs ⊎ List·Memᴰ ρ (map inverse ρs) → Fits (l .level) (name (ρ .right)) (shape ρ)
-      by-part (inl k) = l .fits ρ k
-      by-part (inr k) = mirrored (Memᴰ·of-map inverse ρs k)
-
   -- what the machine of a role reads at the role's level
   abbrev pub Reads : ℕ → Chain → Type 0
   Reads r w = Language ρs (suc (l .level (name r))) r w
@@ -77,7 +65,7 @@ module _ (n : ℕ) (ρs : List Rule) (l : Leveled n ρs) where
           (run-row (shapes-own ρs (ρ .right) (row final final inner) m) (inner-spelled (ρ .right) inner (k .rest) f (k .of-rest))))
 
   rule-reads : (ρ : Rule) → List·Memᴰ ρ (completion ρs) → (w : Chain) → Spelled Reads (ρ .left) w → Reads (ρ .right) w
-  rule-reads ρ m = shape-reads ρ (shape ρ) (rule-own-shape ρs ρ m) (shape-shaped ρ) (completed-fits ρ m)
+  rule-reads ρ m = shape-reads ρ (shape ρ) (rule-own-shape ρs ρ m) (shape-shaped ρ) (completed-fits (l .level) ρs (l .fits) ρ m)
 
   letters-spelled : (w : Chain) → Spelled Reads w w
   letters-spelled [] = none

@@ -1,11 +1,12 @@
 -- What the shape of a rule says of its left side, and levels that fit a rule fit its inverse.
-use mathlib.Core.List.{[], _∷_, _++_, List·Memᴰ}
-use mathlib.Core.Path.{_≡_, refl}
+use mathlib.Core.List.{List, [], _∷_, _++_, map, List·Memᴰ, List·Memᴰ·append-cases, Memᴰ·of-map}
+use mathlib.Core.Logic.{_⊎_, inl, inr}
+use mathlib.Core.Path.{_≡_, refl, subst}
 use Prim.Native.Nat.{ℕ, _<_}
 use native.Mathlib.Omega.{arith}
 use Rattle.roles.specs.Role.{Chain, name, inv, inv-chain}
 use Rattle.roles.specs.RoleLaws.{name-inv}
-use Rattle.roles.specs.Rule.{Rule, inverse}
+use Rattle.roles.specs.Rule.{Rule, inverse, completion}
 use Rattle.order.specs.Shape.{Shape, shape}
 use Rattle.order.specs.Shape.End.{initial, final}
 use Rattle.order.specs.Shape.Shape.{transitive, symmetric, row}
@@ -62,3 +63,16 @@ module _ (level : ℕ → ℕ) where
   pub fits-inverse : (ρ : Rule) → Fits level (name (ρ .right)) (shape ρ) → Fits level (name (inverse ρ .right)) (shape (inverse ρ))
   unfolding inverse
   fits-inverse ρ l = rw (shape-inverse ρ (fits-apart (ρ .right) (shape ρ) l)) (fits-turned (ρ .right) (shape ρ) l)
+
+  -- levels that fit rules fit the completed ones
+  pub completed-fits : (ρs : List Rule) → ((ρ : Rule) → List·Memᴰ ρ ρs → Fits level (name (ρ .right)) (shape ρ))
+      → (ρ : Rule) → List·Memᴰ ρ (completion ρs) → Fits level (name (ρ .right)) (shape ρ)
+  unfolding completion
+  completed-fits ρs fits ρ m = by-part (List·Memᴰ·append-cases ρs m)
+    where
+      mirrored : (σ : Rule) × List·Memᴰ σ ρs × (inverse σ ≡ ρ) → Fits level (name (ρ .right)) (shape ρ)
+      mirrored t = subst (λ x. Fits level (name (x .right)) (shape x)) (t .2) (fits-inverse (t .0) (fits (t .0) (t .1)))
+
+      by-part : List·Memᴰ ρ ρs ⊎ List·Memᴰ ρ (map inverse ρs) → Fits level (name (ρ .right)) (shape ρ)
+      by-part (inl k) = fits ρ k
+      by-part (inr k) = mirrored (Memᴰ·of-map inverse ρs k)

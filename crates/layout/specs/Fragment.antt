@@ -109,3 +109,9 @@ module _ (ρs : List Rule) (apart : Apart-rules ρs) (fuel r : ℕ) where
         (laid-both (size-at r) (size-at (inv r)) (rows-at p (p + 2) r) (rows-at p q (inv r)) (rows-at p (p + 2 + size-at r) (inv r)) (p + 2) k₁ m₁ q k₂ m₂ v j o rows b
         (λ e. ap (λ (i : ℕ). rows-at p i (inv r)) e))
         (λ e. refl))))
+
+-- three pieces that take no state
+pub laid-three : (ts us vs : List Transition) (p k : ℕ) (m : List ℕ) (q l : ℕ) (n : List ℕ) (v j : ℕ) (o : List ℕ) (r i : ℕ) (w : List ℕ)
+    → Laid 0 ts p k m q l n → Laid 0 us q l n v j o → Laid 0 vs v j o r i w → Laid 0 (ts ++ (us ++ vs)) p k m r i w
+laid-three ts us vs p k m q l n v j o r i w a b c =
+    laid-both 0 0 ts (us ++ vs) (us ++ vs) p k m q l n r i w a (laid-both 0 0 us vs vs q l n v j o r i w b c (λ e. refl)) (λ e. refl)

@@ -5,3 +5,8 @@ pub mod Laid
 pub mod Fragment
 pub mod Linked
 pub mod Indexed
+pub mod IndexedLaws
+pub mod Filling
+pub mod FillingLaws
+pub mod IndexLaws
+pub mod Sizes
