@@ -1,14 +1,12 @@
 -- A fragment from its pieces: two states, letters and the transition back, the rows of its own rules and, if it is symmetric, of its inverse's.
 use mathlib.Core.Bool.{Bool, true, false, cond}
 use mathlib.Core.List.{List, [], _∷_, _++_, append-assoc}
-use mathlib.Core.Path.{_≡_, refl, sym, ap, _∙_, subst}
-use Prim.Native.Nat.{ℕ, suc, _+_, _*_, _<_, _≤_}
-use native.Mathlib.Nat.{zero-add}
+use mathlib.Core.Path.{_≡_, refl, sym, ap, _∙_}
+use Prim.Native.Nat.{ℕ, zero, suc, _+_, _<_, _≤_}
+use native.Mathlib.Nat.{zero-add, not-suc-le-zero, le-of-suc-le-suc}
 use native.Mathlib.Omega.{arith}
-use lib.ListN.{length}
-use Rattle.roles.specs.Role.{Chain, inv}
+use Rattle.roles.specs.Role.{inv}
 use Rattle.roles.specs.Rule.{Rule}
-use Rattle.order.specs.Shape.{Shape}
 use Rattle.tables.specs.Tables.{Transition, silent, own-shapes, shapes, has-symmetric, has-transitive, letters, back, rows-size, rows-transitions, size-of, transitions-of}
 use Rattle.layout.specs.Pieces.{rows-size-append, rows-transitions-append, has-symmetric-shapes}
 use Rattle.layout.specs.Own.{Apart-rules, has-transitive-shapes}
@@ -115,3 +113,17 @@ pub laid-three : (ts us vs : List Transition) (p k : ℕ) (m : List ℕ) (q l : 
     → Laid 0 ts p k m q l n → Laid 0 us q l n v j o → Laid 0 vs v j o r i w → Laid 0 (ts ++ (us ++ vs)) p k m r i w
 laid-three ts us vs p k m q l n v j o r i w a b c =
     laid-both 0 0 ts (us ++ vs) (us ++ vs) p k m q l n r i w a (laid-both 0 0 us vs vs q l n v j o r i w b c (λ e. refl)) (λ e. refl)
+
+-- a fragment has two states or more
+pub size-least : (ρs : List Rule) (fuel r : ℕ) → 2 ≤ size-of ρs fuel r
+unfolding size-of
+size-least ρs zero r = omega arith
+size-least ρs (suc fuel) r = omega arith
+
+pub fragment-over : (ρs : List Rule) (fuel r : ℕ) (ts : List Transition) (p k : ℕ) (m : List ℕ) → 2046 < p → Laid (size-of ρs fuel r) ts p k m 2049 k m
+fragment-over ρs fuel r ts p k m h = laid-over (size-of ρs fuel r) ts p k m 2049 k m (omega (arith, size-least ρs fuel r)) (omega arith)
+
+-- fuel above a level
+pub by-fuel : (P : ℕ → Type 0) (level fuel : ℕ) → level < fuel → ((f : ℕ) → level ≤ f → P (suc f)) → P fuel
+by-fuel P level zero h g = absurd (not-suc-le-zero h)
+by-fuel P level (suc f) h g = g f (le-of-suc-le-suc h)

@@ -6,6 +6,9 @@ pub mod Fragment
 pub mod Linked
 pub mod Indexed
 pub mod IndexedLaws
+pub mod Left
+pub mod Facing
+pub mod RootsLeft
 pub mod Filling
 pub mod FillingLaws
 pub mod IndexLaws

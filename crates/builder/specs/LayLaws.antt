@@ -1,0 +1,16 @@
+-- The shape found at a rule's place is the shape of the rule.
+use mathlib.Core.List.{List}
+use mathlib.Core.Path.{_≡_, refl, ap, _∙_}
+use Prim.Native.Nat.{ℕ, _<_}
+use lib.ListN.{length}
+use Rattle.roles.specs.Rule.{Rule}
+use Rattle.order.specs.Shape as Order
+use Rattle.format.specs.Place.{rule-at}
+use Rattle.layout.specs.Linked.{rule}
+use Rattle.layout.specs.Indexed.{Indexed, place-in}
+use Rattle.orderer.specs.Shape.{shape-in, Shaped}
+use Rattle.orderer.specs.declared.shape.Shape.{Shape}
+
+pub rule-shape : (s : List ℕ) (ρs : List Rule) (ix : List ℕ) → Indexed s ρs ix → (k at : ℕ) → k < length ρs → at ≡ place-in ix k
+    → (sh : Shape) → Shaped (rule-at s at .left) (rule-at s at .right) sh → shape-in (rule-at s at .left) sh ≡ Order.shape (rule ρs k)
+rule-shape s ρs ix i k at h e sh d = d .shape ∙ ap Order.shape (ap (rule-at s) e ∙ i .place k h)

@@ -1,0 +1,10 @@
+pub mod Lay
+pub mod LayLaws
+pub mod RowLaws
+pub mod RuleLaws
+pub mod RowsLaws
+pub mod FragmentLaws
+pub mod RootsLaws
+pub mod Built
+pub mod BuiltLaws
+pub mod BuildLaws

@@ -1,0 +1,93 @@
+// The table builder: causes 1 to 11, and the tables of an accepted book in lent memory.
+ghost use mathlib.Core.List.{List};
+ghost use mathlib.Core.Path.{_≡_};
+ghost use Prim.Native.Nat.{ℕ, _<_, _≤_};
+ghost use Rattle.roles.specs.Rule.{Rule, Book};
+ghost use Rattle.format.specs.Result.Result.{accepted};
+ghost use Rattle.causes.specs.Ordered.{ordered};
+ghost use Rattle.layout.specs.Indexed.{Indexed, level-in};
+ghost use Rattle.builder.specs.Lay.{Ready, Measured};
+ghost use Rattle.builder.specs.Built.{Prepared, Builds};
+
+mod index;
+mod lay;
+
+use index::fill;
+use lay::Place;
+use lay::roots;
+use reader::Refusal;
+use reader::Verdict;
+
+// How many states and transitions the tables have.
+pub struct Counts {
+    pub states: usize,
+    pub transitions: usize,
+}
+
+// What a build says: the counts of the tables written, or refused.
+pub enum Outcome {
+    Built(Counts),
+    Refused(Refusal),
+}
+
+// Builds the tables of a book: the first numbers of heads and moves are written, all others kept; a refusal changes neither.
+pub fn build(book: &[u8], heads: &mut [u16], moves: &mut [u16]) -> Outcome
+    ensures { λ r. ⌜ Builds (now (book .entry)) (now (heads .entry)) (now (moves .entry)) (now (heads .exit)) (now (moves .exit)) r ⌝ }
+{
+    let ordering = orderer::order(book);
+    let verdict = ordering.verdict;
+    match verdict {
+        Verdict::Refused(refusal) => Outcome::Refused(refusal),
+        Verdict::WellFormed(header) => {
+            let levels = ordering.levels;
+            let mut index = [0u16; 640];
+            fill(book, header.rules, &levels, &mut index);
+            lay_tables(book, &index, header.names, heads, moves)
+        }
+    }
+}
+
+// Builds the tables of an ordered book through its index: first without a table, to learn their sizes, then in the lent ones.
+fn lay_tables(
+    book: &[u8],
+    index: &[u16],
+    names: usize,
+    heads: &mut [u16],
+    moves: &mut [u16],
+) -> Outcome
+    requires { ⌜ Prepared (now book) (now index) names ⌝ }
+    ensures { λ r. ⌜ Builds (now (book .entry)) (now (heads .entry)) (now (moves .entry)) (now (heads .exit)) (now (moves .exit)) r ⌝ }
+{
+    let end = measured(book, index, names);
+    let states = end.state;
+    let count = end.count;
+    if 2048 < states {
+        return Outcome::Refused(Refusal::States);
+    }
+    if 5120 < count {
+        return Outcome::Refused(Refusal::Transitions);
+    }
+    if heads.len() < names {
+        return Outcome::Refused(Refusal::Short);
+    }
+    if moves.len() < 3 * count {
+        return Outcome::Refused(Refusal::Short);
+    }
+    roots(book, index, names, heads, moves);
+    Outcome::Built(Counts {
+        states: states,
+        transitions: count,
+    })
+}
+
+// How many states and transitions the tables have, by laying them nowhere.
+fn measured(book: &[u8], index: &[u16], names: usize) -> Place
+    requires { ⌜ Ready (now book) (now index) ⌝ }
+    requires { ⌜ names ≤ 64 ⌝ }
+    ensures { λ r. ⌜ ((ρs : List Rule) → Indexed (now (book .entry)) ρs (now (index .entry)) → (fuel : ℕ)
+        → ((x : ℕ) → x < names → level-in (now (index .entry)) x < fuel) → Measured ρs fuel names r) ⌝ }
+{
+    let mut nothing = [0u16; 1];
+    let mut nowhere = [0u16; 1];
+    roots(book, index, names, &mut nothing[0..0], &mut nowhere[0..0])
+}
