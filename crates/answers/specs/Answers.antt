@@ -1,0 +1,172 @@
+-- From a book's bytes to the answer: where a book is accepted, a question over its names with a chain of 1 to 1,024 links, put to its tables,
+-- is never refused, and the path that it asks for exists exactly where finitely many replacements lead from the role to the chain.
+use mathlib.Core.Bool.{Bool, true, false, cond, _&&_}
+use mathlib.Core.List.{List, [], _∷_}
+use mathlib.Core.List.List·Memᴰ.{List·Memᴰ·head, List·Memᴰ·tail}
+use mathlib.Core.Logic.{_↔_, _⊎_, inl, inr}
+use mathlib.Core.Path.{_≡_, refl, ap, _∙_}
+use Prim.Native.Nat.{ℕ, _+_, _*_, _/_, _%_, _<_, _≤_}
+use native.Mathlib.Nat.{zero-add}
+use native.Mathlib.Omega.{arith}
+use borrow.Author.Tests.{le-leb, leb-true, eq-eqb, ne-eqb}
+use lib.Dec.{leb, eqb}
+use lib.ListN.{length, getD}
+use Rattle.roles.specs.Role.{Chain, name, polarity, inv, inv-chain}
+use Rattle.roles.specs.Rule.{Rule, Book}
+use Rattle.roles.specs.Named.{Named}
+use Rattle.roles.specs.Derivation.{Derives}
+use Rattle.roles.specs.Tests.{eq-or-ne}
+use Rattle.order.specs.Regular.{Regular}
+use Rattle.tables.specs.Tables.{Transition, transitions, initial-states, numbers}
+use Rattle.format.specs.Result.{Result, and-then}
+use Rattle.format.specs.Result.Result.{refused, accepted}
+use Rattle.format.specs.ResultLaws.{refused-accepted, accepted-injective, demand-test, demand-rest}
+use Rattle.format.specs.Format.{read, named}
+use Rattle.format.specs.ReadLaws.{read-names, read-some-name, read-few-names}
+use Rattle.causes.specs.Ordered.{ordered, Judged}
+use Rattle.causes.specs.Ordered.Judged.{has-order, none}
+use Rattle.causes.specs.GatherLaws.{ordered-read, ordered-judged}
+use Rattle.causes.specs.Built.{states-of, count-of, heads-of, moves-of, fitting, built}
+use Rattle.queries.specs.Query.{transitions-in, heads-fit, transitions-fit, tables-fit, query, asked, Accepts}
+use Rattle.automata.specs.Every.{Every, every-tail}
+use Rattle.correctness.specs.Derivable.{Accepted, accepted-derives, accepted-derives-inverse}
+use Rattle.answers.specs.Within.{Within, roots-within, heads-within, length-roots}
+
+-- the numbers of transitions spell them
+transitions-numbers : (ms : List Transition) → transitions-in (numbers ms) ≡ ms
+unfolding transitions-in numbers
+transitions-numbers [] = refl
+transitions-numbers (m ∷ ms) = ap (λ (ns : List Transition). m ∷ ns) (transitions-numbers ms)
+
+length-numbers : (ms : List Transition) → length (numbers ms) ≡ 3 * length ms
+unfolding numbers
+length-numbers [] = refl
+length-numbers (m ∷ ms) = let e : length (numbers ms) ≡ 3 * length ms = length-numbers ms in omega arith
+
+-- cause 12, for states below 2,048
+heads-fitting : (hs : List ℕ) → Every (λ (h : ℕ). h + 2 ≤ 2048) hs → heads-fit hs ≡ true
+unfolding heads-fit
+heads-fitting [] every = refl
+heads-fitting (h ∷ hs) every =
+    let l : h + 2 ≤ 2048 = every h (List·Memᴰ·head refl) in
+    rw (le-leb h 2046 (omega arith), heads-fitting hs (every-tail (λ (h : ℕ). h + 2 ≤ 2048) every)) refl
+
+transitions-fitting : (ms : List Transition) → Every (Within 2048) ms → transitions-fit ms ≡ true
+unfolding transitions-fit
+transitions-fitting [] every = refl
+transitions-fitting (m ∷ ms) every =
+    let w = every m (List·Memᴰ·head refl) in
+    let from : m .from < 2048 = w .0 in
+    let to : m .to < 2048 = w .2 in
+    rw (
+      le-leb (m .from) 2047 (omega arith),
+      le-leb (m .label) 128 (w .1),
+      le-leb (m .to) 2047 (omega arith),
+      transitions-fitting ms (every-tail (Within 2048) every),
+    )
+    refl
+
+fitting-tables : (hs ms : List ℕ) → 1 ≤ length hs → length hs ≤ 64 → heads-fit hs ≡ true → length ms % 3 ≡ 0 → length ms ≤ 15360
+    → transitions-fit (transitions-in ms) ≡ true → tables-fit hs ms ≡ true
+unfolding tables-fit
+fitting-tables hs ms some few heads threes short moves =
+    rw (le-leb 1 (length hs) some, le-leb (length hs) 64 few, heads, eq-eqb (length ms % 3) 0 threes, le-leb (length ms) 15360 short, moves) refl
+
+-- causes 12 to 14
+asking : (hs ms : List ℕ) (r : ℕ) (w : Chain) → tables-fit hs ms ≡ true → 1 ≤ length w → length w ≤ 1024 → named (length hs) (r ∷ w) ≡ true
+    → query hs ms r w ≡ accepted tt
+unfolding query
+asking hs ms r w fit some few over = rw (fit, le-leb 1 (length w) some, le-leb (length w) 1024 few, over) refl
+
+-- a role by its name and polarity
+role-plain : (r : ℕ) → (polarity r ≡ 1 → ⊥) → 2 * name r ≡ r
+unfolding polarity name
+role-plain r h = omega (arith, h)
+
+role-inverse : (r : ℕ) → polarity r ≡ 1 → inv (2 * name r) ≡ r
+unfolding polarity name inv
+role-inverse r h = omega (arith, h)
+
+name-below : (r n : ℕ) → r < 2 * n → name r < n
+unfolding name
+name-below r n h = omega arith
+
+asked-plain : (r : ℕ) (w : Chain) → (polarity r ≡ 1 → ⊥) → asked r w ≡ w
+unfolding asked
+asked-plain r w h = rw (ne-eqb (polarity r) 1 h) refl
+
+asked-inverse : (r : ℕ) (w : Chain) → polarity r ≡ 1 → asked r w ≡ inv-chain w
+unfolding asked
+asked-inverse r w h = rw (eq-eqb (polarity r) 1 h) refl
+
+-- what an accepted book has passed
+fitted : (heads moves : ℕ) (d b : Book) → fitting heads moves d ≡ accepted b → (d ≡ b) × (states-of d ≤ 2048) × (count-of d ≤ 5120)
+unfolding fitting
+fitted heads moves d b h =
+    let first = demand-rest (leb (states-of d) 2048) 9 0 _ b h in
+    let second = demand-rest (leb (count-of d) 5120) 10 0 _ b first in (
+      accepted-injective d b (demand-rest (leb (d .names) heads && leb (3 * count-of d) moves) 11 0 _ b second),
+      leb-true (states-of d) 2048 (demand-test (leb (states-of d) 2048) 9 0 _ b h),
+      leb-true (count-of d) 5120 (demand-test (leb (count-of d) 5120) 10 0 _ b first),
+    )
+
+judged-regular : (b : Book) (r : Result Book) → Judged b r → r ≡ accepted b → Regular (b .rules)
+judged-regular b _ (has-order g) h = g
+judged-regular b _ (none k l front bad) h = absurd (refused-accepted 8 k b h)
+
+module _ (s : List ℕ) (heads moves : ℕ) (b : Book) (e : built s heads moves ≡ accepted b) where
+  passed : (ordered s ≡ accepted b) × (states-of b ≤ 2048) × (count-of b ≤ 5120)
+  passed = by-result (ordered s) refl (unfold built in e)
+    where
+      by-result : (r : Result Book) → ordered s ≡ r → and-then r (fitting heads moves) ≡ accepted b
+          → (ordered s ≡ accepted b) × (states-of b ≤ 2048) × (count-of b ≤ 5120)
+      by-result (refused c v) f g = absurd (refused-accepted c v b g)
+      by-result (accepted d) f g =
+          let p = fitted heads moves d b g in
+          (f ∙ ap accepted (p .0), rw (← p .0) (p .1), rw (← p .0) (p .2))
+
+  well-read : read s ≡ accepted b
+  well-read = ordered-read s b (passed .0)
+
+  regular : Regular (b .rules)
+  regular = judged-regular b (ordered s) (ordered-judged s b well-read) (passed .0)
+
+  few : b .names ≤ 64
+  few = read-few-names s b well-read
+
+  over : Named (b .names) (b .rules)
+  over = read-names s b well-read
+
+  fit : tables-fit (heads-of b) (moves-of b) ≡ true
+  fit =
+      let size : states-of b ≤ 2048 = passed .1 in
+      let count : count-of b ≤ 5120 = passed .2 in
+      let roots : length (heads-of b) ≡ b .names = length-roots (b .rules) (b .names) (b .names) 0 0 in
+      let three : length (moves-of b) ≡ 3 * count-of b = length-numbers (transitions (b .names) (b .rules)) in
+      fitting-tables (heads-of b) (moves-of b) (rw roots (read-some-name s b well-read)) (rw roots few)
+      (heads-fitting (heads-of b) (heads-within (b .names) 2048 few (b .rules) over (b .names) (b .names) 0 0 (rw zero-add size)))
+      (omega (arith, three)) (omega (arith, three, count))
+      (rw (transitions-numbers (transitions (b .names) (b .rules)))
+      (transitions-fitting (transitions (b .names) (b .rules))
+      (roots-within (b .names) 2048 few (b .rules) over (b .names) (b .names) 0 0 (omega arith) (rw zero-add size))))
+
+  -- never refused
+  pub never-refused : (r : ℕ) (w : Chain) → 1 ≤ length w → length w ≤ 1024 → named (b .names) (r ∷ w) ≡ true
+      → query (heads-of b) (moves-of b) r w ≡ accepted tt
+  never-refused r w some short own =
+      asking (heads-of b) (moves-of b) r w fit some short (rw (length-roots (b .rules) (b .names) (b .names) 0 0) own)
+
+  -- yes exactly where derived
+  pub accepts-derives : (r : ℕ) → r < 2 * b .names → (w : Chain) → Accepts (heads-of b) (moves-of b) r w ↔ Derives (b .rules) r w
+  accepts-derives r h w = by-polarity (eq-or-ne (polarity r) 1)
+    where
+      below : name r < b .names
+      below = name-below r (b .names) h
+
+      by-polarity : (polarity r ≡ 1) ⊎ (polarity r ≡ 1 → ⊥) → Accepts (heads-of b) (moves-of b) r w ↔ Derives (b .rules) r w
+      by-polarity (inl p) =
+          rw (transitions-numbers (transitions (b .names) (b .rules)), asked-inverse r w p)
+          (rw (role-inverse r p) at (accepted-derives-inverse (b .names) (b .rules) few over regular (name r) below w))
+      by-polarity (inr p) =
+          rw (transitions-numbers (transitions (b .names) (b .rules)), asked-plain r w p)
+          (rw (role-plain r p) at (accepted-derives (b .names) (b .rules) few over regular (name r) below w))
