@@ -1,23 +1,23 @@
 -- From a book's bytes to the answer: where a book is accepted, a question over its names with a chain of 1 to 1,024 links, put to its tables,
 -- is never refused, and the path that it asks for exists exactly where finitely many replacements lead from the role to the chain.
-use mathlib.Core.Bool.{Bool, true, false, cond, _&&_}
+use mathlib.Core.Bool.{true, cond, _&&_}
 use mathlib.Core.List.{List, [], _∷_}
-use mathlib.Core.List.List·Memᴰ.{List·Memᴰ·head, List·Memᴰ·tail}
+use mathlib.Core.List.List·Memᴰ.{List·Memᴰ·head}
 use mathlib.Core.Logic.{_↔_, _⊎_, inl, inr}
 use mathlib.Core.Path.{_≡_, refl, ap, _∙_}
-use Prim.Native.Nat.{ℕ, _+_, _*_, _/_, _%_, _<_, _≤_}
+use Prim.Native.Nat.{ℕ, _+_, _*_, _%_, _<_, _≤_}
 use native.Mathlib.Nat.{zero-add}
 use native.Mathlib.Omega.{arith}
 use borrow.Author.Tests.{le-leb, leb-true, eq-eqb, ne-eqb}
 use lib.Dec.{leb, eqb}
-use lib.ListN.{length, getD}
+use lib.ListN.{length}
 use Rattle.roles.specs.Role.{Chain, name, polarity, inv, inv-chain}
-use Rattle.roles.specs.Rule.{Rule, Book}
+use Rattle.roles.specs.Rule.{Book}
 use Rattle.roles.specs.Named.{Named}
 use Rattle.roles.specs.Derivation.{Derives}
 use Rattle.roles.specs.Tests.{eq-or-ne}
 use Rattle.order.specs.Regular.{Regular}
-use Rattle.tables.specs.Tables.{Transition, transitions, initial-states, numbers}
+use Rattle.tables.specs.Tables.{Transition, transitions, numbers}
 use Rattle.format.specs.Result.{Result, and-then}
 use Rattle.format.specs.Result.Result.{refused, accepted}
 use Rattle.format.specs.ResultLaws.{refused-accepted, accepted-injective, demand-test, demand-rest}
@@ -27,21 +27,17 @@ use Rattle.causes.specs.Ordered.{ordered, Judged}
 use Rattle.causes.specs.Ordered.Judged.{has-order, none}
 use Rattle.causes.specs.GatherLaws.{ordered-read, ordered-judged}
 use Rattle.causes.specs.Built.{states-of, count-of, heads-of, moves-of, fitting, built}
+use Rattle.layout.specs.Pieces.{length-numbers, length-roots}
 use Rattle.queries.specs.Query.{transitions-in, heads-fit, transitions-fit, tables-fit, query, asked, Accepts}
 use Rattle.automata.specs.Every.{Every, every-tail}
-use Rattle.correctness.specs.Derivable.{Accepted, accepted-derives, accepted-derives-inverse}
-use Rattle.answers.specs.Within.{Within, roots-within, heads-within, length-roots}
+use Rattle.correctness.specs.Derivable.{accepted-derives, accepted-derives-inverse}
+use Rattle.answers.specs.Within.{Within, roots-within, heads-within}
 
 -- the numbers of transitions spell them
 transitions-numbers : (ms : List Transition) → transitions-in (numbers ms) ≡ ms
 unfolding transitions-in numbers
 transitions-numbers [] = refl
 transitions-numbers (m ∷ ms) = ap (λ (ns : List Transition). m ∷ ns) (transitions-numbers ms)
-
-length-numbers : (ms : List Transition) → length (numbers ms) ≡ 3 * length ms
-unfolding numbers
-length-numbers [] = refl
-length-numbers (m ∷ ms) = let e : length (numbers ms) ≡ 3 * length ms = length-numbers ms in omega arith
 
 -- cause 12, for states below 2,048
 heads-fitting : (hs : List ℕ) → Every (λ (h : ℕ). h + 2 ≤ 2048) hs → heads-fit hs ≡ true

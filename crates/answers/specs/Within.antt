@@ -1,18 +1,17 @@
 -- The states of tables are below their number, and their labels are those of transitions.
-use mathlib.Core.Bool.{Bool, true, false, cond}
-use mathlib.Core.List.{List, [], _∷_, _++_, List·Memᴰ}
+use mathlib.Core.List.{List, [], _∷_, List·Memᴰ}
 use mathlib.Core.List.List·Memᴰ.{List·Memᴰ·head, List·Memᴰ·tail}
-use mathlib.Core.Path.{_≡_, refl, ap}
+use mathlib.Core.Path.{refl}
 use Prim.Native.Nat.{ℕ, zero, suc, _+_, _*_, _<_, _≤_}
 use native.Mathlib.Omega.{arith}
-use lib.ListN.{length}
 use Rattle.roles.specs.Role.{Chain, inv}
 use Rattle.roles.specs.Rule.{Rule}
 use Rattle.roles.specs.Named.{Named}
 use Rattle.order.specs.Shape.{End, Shape}
 use Rattle.order.specs.Shape.End.{initial, final}
 use Rattle.order.specs.Shape.Shape.{transitive, symmetric, row}
-use Rattle.tables.specs.Tables.{Transition, silent, state, shapes, has-symmetric, has-transitive, letters, back, rows-size, row-size, rows-transitions, row-transitions, size-of, transitions-of, roots-from, states-from, transitions-from}
+use Rattle.tables.specs.Tables.{Transition, state, shapes, has-symmetric, has-transitive, letters, back, rows-size, row-size, rows-transitions, row-transitions, size-of, transitions-of, roots-from, states-from, transitions-from}
+use Rattle.layout.specs.Fragment.{size-least}
 use Rattle.automata.specs.Every.{Every, every-nil, every-cons, every-tail, every-append, every-if}
 use Rattle.automata.specs.NamedLaws.{Below, InnerBelow, below-shapes, role-letter, inv-letter}
 
@@ -61,18 +60,13 @@ module _ (n bound : ℕ) (few : n ≤ 64) where
       every-if (Within bound) (has-transitive ss) (λ e. every-cons (Within bound) (omega arith, omega arith, omega arith) (every-nil (Within bound)))
 
   module _ (ρs : List Rule) (named : Named n ρs) where
-    pub size-least : (fuel r : ℕ) → 2 ≤ size-of ρs fuel r
-    unfolding size-of
-    size-least zero r = omega arith
-    size-least (suc fuel) r = omega arith
-
     fragment-within : (fuel r i : ℕ) → r < 2 * n → i + size-of ρs fuel r ≤ bound → Every (Within bound) (transitions-of ρs fuel r i)
     unfolding transitions-of size-of
     fragment-within zero r i hr h = every-nil (Within bound)
     fragment-within (suc fuel) r i hr h =
         every-append (Within bound) (letters r i (shapes ρs r)) (letters-within r i (shapes ρs r) hr (omega arith))
         (every-append (Within bound) (back i (shapes ρs r)) (back-within i (shapes ρs r) (omega arith))
-        (rows-within (size-of ρs fuel) (transitions-of ρs fuel) (size-least fuel) (fragment-within fuel) i (i + 2) (shapes ρs r) (omega arith) (omega arith)
+        (rows-within (size-of ρs fuel) (transitions-of ρs fuel) (size-least ρs fuel) (fragment-within fuel) i (i + 2) (shapes ρs r) (omega arith) (omega arith)
         (below-shapes n ρs named r)))
 
     pub roots-within : (fuel left x at : ℕ) → x + left ≤ n → at + states-from ρs fuel left x ≤ bound
@@ -89,10 +83,5 @@ module _ (n bound : ℕ) (few : n ≤ 64) where
     unfolding roots-from states-from
     heads-within fuel zero x at h = every-nil (λ (h : ℕ). h + 2 ≤ bound)
     heads-within fuel (suc left) x at h =
-        every-cons (λ (h : ℕ). h + 2 ≤ bound) (omega (arith, size-least fuel (2 * x)))
+        every-cons (λ (h : ℕ). h + 2 ≤ bound) (omega (arith, size-least ρs fuel (2 * x)))
         (heads-within fuel left (suc x) (at + size-of ρs fuel (2 * x)) (omega arith))
-
-pub length-roots : (ρs : List Rule) (fuel left x at : ℕ) → length (roots-from ρs fuel left x at) ≡ left
-unfolding roots-from
-length-roots ρs fuel zero x at = refl
-length-roots ρs fuel (suc left) x at = ap suc (length-roots ρs fuel left (suc x) (at + size-of ρs fuel (2 * x)))

@@ -15,7 +15,7 @@ use Rattle.format.specs.Result.Result.{refused, accepted}
 use Rattle.causes.specs.Built.{states-of, count-of, heads-of, moves-of, built, over, written}
 use Rattle.causes.specs.BuiltLaws.{built-accepted}
 use Rattle.layout.specs.Indexed.{Indexed, level-in}
-use Rattle.layout.specs.Pieces.{length-numbers}
+use Rattle.layout.specs.Pieces.{length-numbers, length-roots}
 use Rattle.layout.specs.Sizes.{few-transitions}
 use Rattle.reader.specs.declared.refusal.Refusal.{Refusal}
 use Rattle.reader.specs.Refusal.{cause-of, value-of}
@@ -36,11 +36,6 @@ builds-accepted s h m h′ m′ b c e k p q = record { answer = rw (e, k) refl; 
 -- numbers stored from the front on are the new numbers over the old
 sets-over : (new old : List ℕ) → length new ≤ length old → sets old 0 new ≡ over new old
 sets-over new old h = sets-eq new old 0 (rw zero-add h) ∙ ap (λ (k : ℕ). new ++ drop k old) (zero-add (length new))
-
-length-roots : (ρs : List Rule) (fuel left x at : ℕ) → length (roots-from ρs fuel left x at) ≡ left
-unfolding roots-from
-length-roots ρs fuel zero x at = refl
-length-roots ρs fuel (suc left) x at = ap suc (length-roots ρs fuel left (suc x) (at + size-of ρs fuel (2 * x)))
 
 module _ (s ix : List ℕ) (names : ℕ) (p : Prepared s ix names) where
   few : states-of (p .book) ≤ 2048 → count-of (p .book) ≤ 5120

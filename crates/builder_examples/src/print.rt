@@ -1,7 +1,7 @@
 // What the program writes.
 use builder::Outcome;
 
-pub fn line(text: &[u8]) {
+pub(crate) fn line(text: &[u8]) {
     io::write_all(1, text);
     io::write_all(1, b"\n");
 }
@@ -12,7 +12,7 @@ fn label(text: &[u8], n: usize) {
 }
 
 // What the builder answers for the book, in document 01's numbers.
-pub fn built(text: &[u8], book: &[u8], heads: &mut [u16], moves: &mut [u16]) {
+pub(crate) fn built(text: &[u8], book: &[u8], heads: &mut [u16], moves: &mut [u16]) {
     io::write_all(1, text);
     match builder::build(book, heads, moves) {
         Outcome::Built(counts) => {
@@ -28,7 +28,7 @@ pub fn built(text: &[u8], book: &[u8], heads: &mut [u16], moves: &mut [u16]) {
 }
 
 // The numbers of a table.
-pub fn numbers(text: &[u8], table: &[u16]) {
+pub(crate) fn numbers(text: &[u8], table: &[u16]) {
     io::write_all(1, text);
     io::write_all(1, b":");
     let mut i = 0;

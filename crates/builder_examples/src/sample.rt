@@ -1,7 +1,7 @@
 // Books to try the builder on.
 
 // The first n bytes; none where there are fewer.
-pub fn front(s: &[u8], n: usize) -> &[u8] {
+pub(crate) fn front(s: &[u8], n: usize) -> &[u8] {
     if n <= s.len() {
         return &s[0..n];
     }
@@ -9,7 +9,7 @@ pub fn front(s: &[u8], n: usize) -> &[u8] {
 }
 
 // Writes a tower and answers where it ends: rule i makes `size` links of name i into one of name i + 1.
-pub fn tower(s: &mut [u8], names: u8, rules: usize, size: usize) -> usize {
+pub(crate) fn tower(s: &mut [u8], names: u8, rules: usize, size: usize) -> usize {
     put(s, 0, 0x52);
     put(s, 1, 0x4C);
     put(s, 2, 0x42);

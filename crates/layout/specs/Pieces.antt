@@ -2,7 +2,7 @@
 use mathlib.Core.Bool.{Bool, true, false, cond, false≢true}
 use mathlib.Core.List.{List, [], _∷_, _++_, append-assoc, append-nil}
 use mathlib.Core.Path.{_≡_, refl, sym, ap, _∙_}
-use Prim.Native.Nat.{ℕ, suc, _+_, _*_}
+use Prim.Native.Nat.{ℕ, zero, suc, _+_, _*_}
 use native.Mathlib.Nat.{add-zero, add-assoc}
 use native.Mathlib.Omega.{arith}
 use lib.ListN.{length, length-append}
@@ -10,7 +10,7 @@ use Rattle.roles.specs.Role.{Chain, inv}
 use Rattle.roles.specs.Rule.{Rule}
 use Rattle.order.specs.Shape.{Shape}
 use Rattle.order.specs.Shape.Shape.{transitive, symmetric, row}
-use Rattle.tables.specs.Tables.{Transition, state, own-shapes, shapes, has-symmetric, has-transitive, rows-size, row-size, rows-transitions, row-transitions, numbers}
+use Rattle.tables.specs.Tables.{Transition, state, own-shapes, shapes, has-symmetric, has-transitive, rows-size, row-size, rows-transitions, row-transitions, size-of, roots-from, numbers}
 
 pub numbers-append : (ms ns : List Transition) → numbers (ms ++ ns) ≡ numbers ms ++ numbers ns
 unfolding numbers
@@ -21,6 +21,12 @@ pub length-numbers : (ms : List Transition) → length (numbers ms) ≡ 3 * leng
 unfolding numbers
 length-numbers [] = refl
 length-numbers (m ∷ ms) = rw (length-numbers ms) (omega arith)
+
+-- an initial state for each root
+pub length-roots : (ρs : List Rule) (fuel left x at : ℕ) → length (roots-from ρs fuel left x at) ≡ left
+unfolding roots-from
+length-roots ρs fuel zero x at = refl
+length-roots ρs fuel (suc left) x at = ap suc (length-roots ρs fuel left (suc x) (at + size-of ρs fuel (2 * x)))
 
 module _ (size : ℕ → ℕ) where
   pub rows-size-append : (ss ts : List Shape) → rows-size size (ss ++ ts) ≡ rows-size size ss + rows-size size ts

@@ -1,18 +1,18 @@
 // What the program writes.
 use reader::Verdict;
 
-pub fn line(text: &[u8]) {
+pub(crate) fn line(text: &[u8]) {
     io::write_all(1, text);
     io::write_all(1, b"\n");
 }
 
-pub fn label(text: &[u8], n: usize) {
+pub(crate) fn label(text: &[u8], n: usize) {
     io::write_all(1, text);
     io::print_decimal(1, n as u64);
 }
 
 // What the reader answers for the book, in document 01's numbers.
-pub fn verdict(text: &[u8], bytes: &[u8]) {
+pub(crate) fn verdict(text: &[u8], bytes: &[u8]) {
     io::write_all(1, text);
     match reader::read(bytes) {
         Verdict::WellFormed(header) => {
@@ -28,7 +28,7 @@ pub fn verdict(text: &[u8], bytes: &[u8]) {
 }
 
 // The left side of a rule, as the reader hands it out.
-pub fn left(text: &[u8], rule: usize, bytes: &[u8]) {
+pub(crate) fn left(text: &[u8], rule: usize, bytes: &[u8]) {
     io::write_all(1, text);
     label(b" ", rule);
     io::write_all(1, b":");

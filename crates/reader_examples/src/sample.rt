@@ -1,7 +1,7 @@
 // Books to try the reader on.
 
 // The hall book of document 01: part part to part; part sits to sits; sits let to due.
-pub fn hall() -> [u8; 20] {
+pub(crate) fn hall() -> [u8; 20] {
     [
         0x52,
         0x4C,
@@ -27,7 +27,7 @@ pub fn hall() -> [u8; 20] {
 }
 
 // A copy of the book with one byte changed.
-pub fn edited(book: [u8; 20], at: usize, byte: u8) -> [u8; 20] {
+pub(crate) fn edited(book: [u8; 20], at: usize, byte: u8) -> [u8; 20] {
     let mut copy = book;
     if at < 20 {
         copy[at] = byte;
@@ -36,7 +36,7 @@ pub fn edited(book: [u8; 20], at: usize, byte: u8) -> [u8; 20] {
 }
 
 // The first n bytes; none where there are fewer.
-pub fn front(s: &[u8], n: usize) -> &[u8] {
+pub(crate) fn front(s: &[u8], n: usize) -> &[u8] {
     if n <= s.len() {
         return &s[0..n];
     }
@@ -44,7 +44,7 @@ pub fn front(s: &[u8], n: usize) -> &[u8] {
 }
 
 // Writes a book with `rules` rules of length `size`, no two alike: rule i has the right role 2 (i % 64) and the first left role 2 (i / 64).
-pub fn grid(s: &mut [u8], names: u8, rules: usize, size: usize) {
+pub(crate) fn grid(s: &mut [u8], names: u8, rules: usize, size: usize) {
     put(s, 0, 0x52);
     put(s, 1, 0x4C);
     put(s, 2, 0x42);
