@@ -14,9 +14,9 @@ use Rattle.builder.specs.declared.Counts.{Counts}
 use Rattle.builder.specs.declared.Outcome.{Outcome}
 use Rattle.builder.specs.declared.Outcome.the-variants.{Built, Refused}
 
--- the numbers of states and transitions of a book's tables
+-- the numbers of names, states and transitions of a book's tables
 abbrev pub counts-of : Book → Counts
-counts-of b = record { states = states-of b; transitions = count-of b }
+counts-of b = record { names = b .names; states = states-of b; transitions = count-of b }
 
 -- a build by its counts, or a refusal by its number and value
 abbrev pub says : Outcome → Result Counts

@@ -87,7 +87,7 @@ module _ (s ix : List ℕ) (names : ℕ) (p : Prepared s ix names) where
   -- what was measured and then written is what a build promises
   pub builds-written : (r w : Place) (h h′ m m′ : List ℕ) → Measured (p .book .rules) (p .book .names) names r
       → Roots (p .book .rules) (p .book .names) names w h h′ m m′ → r .state ≤ 2048 → r .count ≤ 5120 → names ≤ length h → 3 * r .count ≤ length m
-      → Builds s h m h′ m′ (Built (record { states = r .state; transitions = r .count }))
+      → Builds s h m h′ m′ (Built (record { names = names; states = r .state; transitions = r .count }))
   builds-written r w h h′ m m′ sizes wrote small few long-heads long-moves =
       let size : states-of (p .book) ≤ 2048 = fits r sizes small in
       let states : r .state ≡ states-of (p .book) = same-states r sizes small in
@@ -96,6 +96,6 @@ module _ (s ix : List ℕ) (names : ℕ) (p : Prepared s ix names) where
       let enough-moves : 3 * count-of (p .book) ≤ length m = rw (← count) long-moves in
       builds-accepted s h m h′ m′ (p .book) _
       (built-accepted s (length h) (length m) (p .book) (p .ordered) size (rw (← count) few) enough-heads enough-moves)
-      (rw (states, count) refl)
+      (rw (p .same, states, count) refl)
       (wrote-heads w h h′ m m′ wrote size enough-heads)
       (wrote-moves w h h′ m m′ wrote size enough-moves)

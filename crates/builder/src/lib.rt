@@ -18,8 +18,9 @@ use lay::roots;
 use reader::Refusal;
 use reader::Verdict;
 
-// How many states and transitions the tables have.
+// How many names, states and transitions the tables have: their numbers are the first `names` heads and the first 3 `transitions` moves.
 pub struct Counts {
+    pub names: usize,
     pub states: usize,
     pub transitions: usize,
 }
@@ -75,6 +76,7 @@ fn lay_tables(
     }
     roots(book, index, names, heads, moves);
     Outcome::Built(Counts {
+        names: names,
         states: states,
         transitions: count,
     })
