@@ -28,7 +28,7 @@ use Rattle.causes.specs.Ordered.Judged.{has-order, none}
 use Rattle.causes.specs.GatherLaws.{ordered-read, ordered-judged}
 use Rattle.causes.specs.Built.{states-of, count-of, heads-of, moves-of, fitting, built}
 use Rattle.layout.specs.Pieces.{length-numbers, length-roots}
-use Rattle.queries.specs.Query.{transitions-in, heads-fit, transitions-fit, tables-fit, query, asked, Accepts}
+use Rattle.queries.specs.Query.{transitions-in, heads-fit, transitions-fit, tables-fit, question, query, asked, Accepts}
 use Rattle.automata.specs.Every.{Every, every-tail}
 use Rattle.correctness.specs.Derivable.{accepted-derives, accepted-derives-inverse}
 use Rattle.answers.specs.Within.{Within, roots-within, heads-within}
@@ -68,11 +68,10 @@ unfolding tables-fit
 fitting-tables hs ms some few heads threes short moves =
     rw (le-leb 1 (length hs) some, le-leb (length hs) 64 few, heads, eq-eqb (length ms % 3) 0 threes, le-leb (length ms) 15360 short, moves) refl
 
--- causes 12 to 14
-asking : (hs ms : List ℕ) (r : ℕ) (w : Chain) → tables-fit hs ms ≡ true → 1 ≤ length w → length w ≤ 1024 → named (length hs) (r ∷ w) ≡ true
-    → query hs ms r w ≡ accepted tt
+-- tables that pass cause 12 leave causes 13 and 14
+asking : (hs ms : List ℕ) (r : ℕ) (w : Chain) → tables-fit hs ms ≡ true → query hs ms r w ≡ question (length hs) r w
 unfolding query
-asking hs ms r w fit some few over = rw (fit, le-leb 1 (length w) some, le-leb (length w) 1024 few, over) refl
+asking hs ms r w fit = rw fit refl
 
 -- a role by its name and polarity
 role-plain : (r : ℕ) → (polarity r ≡ 1 → ⊥) → 2 * name r ≡ r
@@ -146,11 +145,15 @@ module _ (s : List ℕ) (heads moves : ℕ) (b : Book) (e : built s heads moves 
       (transitions-fitting (transitions (b .names) (b .rules))
       (roots-within (b .names) 2048 few (b .rules) over (b .names) (b .names) 0 0 (omega arith) (rw zero-add size))))
 
+  -- cause 12 never comes
+  pub query-question : (r : ℕ) (w : Chain) → query (heads-of b) (moves-of b) r w ≡ question (b .names) r w
+  query-question r w =
+      asking (heads-of b) (moves-of b) r w fit ∙ ap (λ (n : ℕ). question n r w) (length-roots (b .rules) (b .names) (b .names) 0 0)
+
   -- never refused
   pub never-refused : (r : ℕ) (w : Chain) → 1 ≤ length w → length w ≤ 1024 → named (b .names) (r ∷ w) ≡ true
       → query (heads-of b) (moves-of b) r w ≡ accepted tt
-  never-refused r w some short own =
-      asking (heads-of b) (moves-of b) r w fit some short (rw (length-roots (b .rules) (b .names) (b .names) 0 0) own)
+  never-refused r w some short own = query-question r w ∙ rw (le-leb 1 (length w) some, le-leb (length w) 1024 short, own) refl
 
   -- yes exactly where derived
   pub accepts-derives : (r : ℕ) → r < 2 * b .names → (w : Chain) → Accepts (heads-of b) (moves-of b) r w ↔ Derives (b .rules) r w

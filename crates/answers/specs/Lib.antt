@@ -1,2 +1,4 @@
 pub mod Within
 pub mod Answers
+pub mod Reply
+pub mod ReplyLaws

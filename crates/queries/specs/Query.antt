@@ -40,13 +40,13 @@ tables-fit heads moves =
 abbrev pub chain-fits : Chain → Bool
 chain-fits w = leb 1 (length w) && leb (length w) 1024
 
+-- causes 13 and 14, in this order, for so many names
+abbrev pub question : ℕ → ℕ → Chain → Result (Unit {0})
+question n r w = demand (chain-fits w) 13 0 (demand (named n (r ∷ w)) 14 0 (accepted tt))
+
 -- causes 12, 13 and 14, in this order
 unfoldable pub query : (heads moves : List ℕ) → ℕ → Chain → Result (Unit {0})
-query heads moves r w =
-    demand (tables-fit heads moves) 12 0
-    (demand (chain-fits w) 13 0
-    (demand (named (length heads) (r ∷ w)) 14 0
-    (accepted tt)))
+query heads moves r w = demand (tables-fit heads moves) 12 0 (question (length heads) r w)
 
 -- a question about the inverse of a name asks the name with the inverse of the chain
 unfoldable pub asked : ℕ → Chain → Chain
