@@ -1,6 +1,6 @@
 -- From a book's bytes to the answer: where a book is accepted, a question over its names with a chain of 1 to 1,024 links, put to its tables,
 -- is never refused, and the path that it asks for exists exactly where finitely many replacements lead from the role to the chain.
-use mathlib.Core.Bool.{true, cond, _&&_}
+use mathlib.Core.Bool.{true}
 use mathlib.Core.List.{List, [], _∷_}
 use mathlib.Core.List.List·Memᴰ.{List·Memᴰ·head}
 use mathlib.Core.Logic.{_↔_, _⊎_, inl, inr}
@@ -8,8 +8,7 @@ use mathlib.Core.Path.{_≡_, refl, ap, _∙_}
 use Prim.Native.Nat.{ℕ, _+_, _*_, _%_, _<_, _≤_}
 use native.Mathlib.Nat.{zero-add}
 use native.Mathlib.Omega.{arith}
-use borrow.Author.Tests.{le-leb, leb-true, eq-eqb, ne-eqb}
-use lib.Dec.{leb, eqb}
+use borrow.Author.Tests.{le-leb, eq-eqb, ne-eqb}
 use lib.ListN.{length}
 use Rattle.roles.specs.Role.{Chain, name, polarity, inv, inv-chain}
 use Rattle.roles.specs.Rule.{Book}
@@ -18,15 +17,16 @@ use Rattle.roles.specs.Derivation.{Derives}
 use Rattle.roles.specs.Tests.{eq-or-ne}
 use Rattle.order.specs.Regular.{Regular}
 use Rattle.tables.specs.Tables.{Transition, transitions, numbers}
-use Rattle.format.specs.Result.{Result, and-then}
+use Rattle.format.specs.Result.{Result}
 use Rattle.format.specs.Result.Result.{refused, accepted}
-use Rattle.format.specs.ResultLaws.{refused-accepted, accepted-injective, demand-test, demand-rest}
+use Rattle.format.specs.ResultLaws.{refused-accepted}
 use Rattle.format.specs.Format.{read, named}
 use Rattle.format.specs.ReadLaws.{read-names, read-some-name, read-few-names}
 use Rattle.causes.specs.Ordered.{ordered, Judged}
 use Rattle.causes.specs.Ordered.Judged.{has-order, none}
 use Rattle.causes.specs.GatherLaws.{ordered-read, ordered-judged}
-use Rattle.causes.specs.Built.{states-of, count-of, heads-of, moves-of, fitting, built}
+use Rattle.causes.specs.Built.{states-of, count-of, heads-of, moves-of, built}
+use Rattle.causes.specs.BuiltLaws.{Passed, built-passed}
 use Rattle.layout.specs.Pieces.{length-numbers, length-roots}
 use Rattle.queries.specs.Query.{transitions-in, heads-fit, transitions-fit, tables-fit, question, query, asked, Accepts}
 use Rattle.automata.specs.Every.{Every, every-tail}
@@ -94,37 +94,19 @@ asked-inverse : (r : ℕ) (w : Chain) → polarity r ≡ 1 → asked r w ≡ inv
 unfolding asked
 asked-inverse r w h = rw (eq-eqb (polarity r) 1 h) refl
 
--- what an accepted book has passed
-fitted : (heads moves : ℕ) (d b : Book) → fitting heads moves d ≡ accepted b → (d ≡ b) × (states-of d ≤ 2048) × (count-of d ≤ 5120)
-unfolding fitting
-fitted heads moves d b h =
-    let first = demand-rest (leb (states-of d) 2048) 9 0 _ b h in
-    let second = demand-rest (leb (count-of d) 5120) 10 0 _ b first in (
-      accepted-injective d b (demand-rest (leb (d .names) heads && leb (3 * count-of d) moves) 11 0 _ b second),
-      leb-true (states-of d) 2048 (demand-test (leb (states-of d) 2048) 9 0 _ b h),
-      leb-true (count-of d) 5120 (demand-test (leb (count-of d) 5120) 10 0 _ b first),
-    )
-
 judged-regular : (b : Book) (r : Result Book) → Judged b r → r ≡ accepted b → Regular (b .rules)
 judged-regular b _ (has-order g) h = g
 judged-regular b _ (none k l front bad) h = absurd (refused-accepted 8 k b h)
 
 module _ (s : List ℕ) (heads moves : ℕ) (b : Book) (e : built s heads moves ≡ accepted b) where
-  passed : (ordered s ≡ accepted b) × (states-of b ≤ 2048) × (count-of b ≤ 5120)
-  passed = by-result (ordered s) refl (unfold built in e)
-    where
-      by-result : (r : Result Book) → ordered s ≡ r → and-then r (fitting heads moves) ≡ accepted b
-          → (ordered s ≡ accepted b) × (states-of b ≤ 2048) × (count-of b ≤ 5120)
-      by-result (refused c v) f g = absurd (refused-accepted c v b g)
-      by-result (accepted d) f g =
-          let p = fitted heads moves d b g in
-          (f ∙ ap accepted (p .0), rw (← p .0) (p .1), rw (← p .0) (p .2))
+  passed : Passed s heads moves b
+  passed = built-passed heads moves s b e
 
   well-read : read s ≡ accepted b
-  well-read = ordered-read s b (passed .0)
+  well-read = ordered-read s b (passed .ordered)
 
   regular : Regular (b .rules)
-  regular = judged-regular b (ordered s) (ordered-judged s b well-read) (passed .0)
+  regular = judged-regular b (ordered s) (ordered-judged s b well-read) (passed .ordered)
 
   few : b .names ≤ 64
   few = read-few-names s b well-read
@@ -134,8 +116,8 @@ module _ (s : List ℕ) (heads moves : ℕ) (b : Book) (e : built s heads moves 
 
   fit : tables-fit (heads-of b) (moves-of b) ≡ true
   fit =
-      let size : states-of b ≤ 2048 = passed .1 in
-      let count : count-of b ≤ 5120 = passed .2 in
+      let size : states-of b ≤ 2048 = passed .states in
+      let count : count-of b ≤ 5120 = passed .count in
       let roots : length (heads-of b) ≡ b .names = length-roots (b .rules) (b .names) (b .names) 0 0 in
       let three : length (moves-of b) ≡ 3 * count-of b = length-numbers (transitions (b .names) (b .rules)) in
       fitting-tables (heads-of b) (moves-of b) (rw roots (read-some-name s b well-read)) (rw roots few)

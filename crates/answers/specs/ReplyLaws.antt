@@ -1,14 +1,13 @@
 -- Questions put to the tables of an accepted book are answered as demand 3 says.
-use mathlib.Core.Bool.{Bool, true, false}
-use mathlib.Core.List.{List, [], _∷_}
+use mathlib.Core.Bool.{Bool}
+use mathlib.Core.List.{List, _∷_}
 use mathlib.Core.Path.{_≡_, sym, _∙_}
-use Prim.Native.Nat.{ℕ, zero, _*_, _<_, _≤_}
+use Prim.Native.Nat.{ℕ, zero, _*_, _<_}
 use native.Mathlib.Omega.{arith}
-use lib.ListN.{length}
 use Rattle.roles.specs.Role.{Chain}
 use Rattle.roles.specs.Rule.{Book}
 use Rattle.format.specs.Result.{Result, demand}
-use Rattle.format.specs.Result.Result.{refused, accepted}
+use Rattle.format.specs.Result.Result.{accepted}
 use Rattle.format.specs.ResultLaws.{demand-test, demand-rest}
 use Rattle.format.specs.Format.{named}
 use Rattle.format.specs.NamedLaws.{named-link}
@@ -16,7 +15,7 @@ use Rattle.causes.specs.Built.{heads-of, moves-of, built}
 use Rattle.queries.specs.Query.{chain-fits, question, Answered}
 use Rattle.queries.specs.Query.Answered.{turned-away as refused-by-tables, yes as yes-by-tables, no as no-by-tables}
 use Rattle.answers.specs.Answers.{query-question, accepts-derives}
-use Rattle.answers.specs.Reply.{Decided, Replied}
+use Rattle.answers.specs.Reply.{Decided}
 use Rattle.answers.specs.Reply.Decided.{turned-away, yes, no}
 
 -- a role that a question is accepted for

@@ -1,13 +1,16 @@
--- What each test of causes 9 to 11 settles, for a book with a regular order.
-use mathlib.Core.Bool.{Bool, true, false, _&&_, and-false}
-use mathlib.Core.List.{List, []}
-use mathlib.Core.Path.{_≡_, refl, _∙_}
+-- What each test of causes 9 to 11 settles, for a book with a regular order, and what an accepted book has passed.
+use mathlib.Core.Bool.{_&&_, and-false}
+use mathlib.Core.List.{List}
+use mathlib.Core.Path.{_≡_, refl, ap, _∙_, subst}
 use Prim.Native.Nat.{ℕ, _*_, _<_, _≤_}
-use borrow.Author.Tests.{le-leb, lt-leb}
+use borrow.Author.Tests.{le-leb, lt-leb, leb-true}
 use lib.Dec.{leb}
+use Rattle.roles.specs.Tests.{and-left, and-right}
 use Rattle.roles.specs.Rule.{Book}
-use Rattle.format.specs.Result.{Result}
+use Rattle.format.specs.Result.{Result, and-then}
 use Rattle.format.specs.Result.Result.{refused, accepted}
+use Rattle.format.specs.ResultLaws.{refused-accepted, accepted-injective, demand-test, demand-rest}
+use Rattle.causes.specs.Ordered
 use Rattle.causes.specs.Ordered.{ordered}
 use Rattle.causes.specs.Built.{states-of, count-of, fitting, built}
 
@@ -40,3 +43,44 @@ module _ (s : List ℕ) (heads moves : ℕ) where
         unfolding built fitting
         built-accepted h k =
             rw (o, le-leb (states-of b) 2048 few, le-leb (count-of b) 5120 less, le-leb (b .names) heads h, le-leb (3 * count-of b) moves k) refl
+
+-- what an accepted book has passed
+pub record Passed (s : List ℕ) (heads moves : ℕ) (b : Book) : Type 0 where
+  pub ordered : Ordered.ordered s ≡ accepted b
+  pub states : states-of b ≤ 2048
+  pub count : count-of b ≤ 5120
+  pub names : b .names ≤ heads
+  pub numbers : 3 * count-of b ≤ moves
+
+module _ (heads moves : ℕ) where
+  fitted-same : (d b : Book) → fitting heads moves d ≡ accepted b → d ≡ b
+  unfolding fitting
+  fitted-same d b h =
+      accepted-injective d b
+      (demand-rest (leb (d .names) heads && leb (3 * count-of d) moves) 11 0 _ b
+      (demand-rest (leb (count-of d) 5120) 10 0 _ b
+      (demand-rest (leb (states-of d) 2048) 9 0 _ b h)))
+
+  passed : (s : List ℕ) (b : Book) → ordered s ≡ accepted b → fitting heads moves b ≡ accepted b → Passed s heads moves b
+  unfolding fitting
+  passed s b o h =
+      let second = demand-rest (leb (states-of b) 2048) 9 0 _ b h in
+      let third = demand-rest (leb (count-of b) 5120) 10 0 _ b second in
+      let lent = demand-test (leb (b .names) heads && leb (3 * count-of b) moves) 11 0 _ b third in
+      record {
+        ordered = o;
+        states = leb-true (states-of b) 2048 (demand-test (leb (states-of b) 2048) 9 0 _ b h);
+        count = leb-true (count-of b) 5120 (demand-test (leb (count-of b) 5120) 10 0 _ b second);
+        names = leb-true (b .names) heads (and-left (leb (b .names) heads) (leb (3 * count-of b) moves) lent);
+        numbers = leb-true (3 * count-of b) moves (and-right (leb (b .names) heads) (leb (3 * count-of b) moves) lent);
+      }
+
+  pub built-passed : (s : List ℕ) (b : Book) → built s heads moves ≡ accepted b → Passed s heads moves b
+  unfolding built
+  built-passed s b e = by-result (ordered s) refl e
+    where
+      by-result : (r : Result Book) → ordered s ≡ r → and-then r (fitting heads moves) ≡ accepted b → Passed s heads moves b
+      by-result (refused c v) f g = absurd (refused-accepted c v b g)
+      by-result (accepted d) f g =
+          let same : d ≡ b = fitted-same d b g in
+          passed s b (f ∙ ap accepted same) (subst (λ (d : Book). fitting heads moves d ≡ accepted b) same g)

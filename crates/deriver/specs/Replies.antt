@@ -1,0 +1,28 @@
+-- What a reply says in document 01's numbers, and what the call that builds and asks promises.
+use mathlib.Core.Bool.{Bool, true, false}
+use mathlib.Core.List.{List}
+use mathlib.Core.Path.{_≡_}
+use Prim.Native.Nat.{ℕ}
+use lib.ListN.{length}
+use Rattle.roles.specs.Role.{Chain}
+use Rattle.format.specs.Result.{Result}
+use Rattle.format.specs.Result.Result.{refused, accepted}
+use Rattle.causes.specs.Built.{heads-of, moves-of, built, written}
+use Rattle.answers.specs.Reply.{Replied}
+use Rattle.reader.specs.Refusal.{cause-of, value-of}
+use Rattle.answerer.specs.Answer.{cause-of as question-cause-of}
+use Rattle.deriver.specs.declared.Reply.{Reply}
+use Rattle.deriver.specs.declared.Reply.the-variants.{Yes, No, Book, Question}
+
+-- yes, no, or a refusal by its number and value
+abbrev pub says : Reply → Result Bool
+says Yes = accepted true
+says No = accepted false
+says (Book refusal) = refused (cause-of refusal) (value-of refusal)
+says (Question refusal) = refused (question-cause-of refusal) 0
+
+-- demand 3, and what the lent tables then hold
+pub record Replies (s h m : List ℕ) (r : ℕ) (w : Chain) (h′ m′ : List ℕ) (a : Reply) : Type 0 where
+  pub answer : Replied s (length h) (length m) r w (says a)
+  pub heads : h′ ≡ written (built s (length h) (length m)) heads-of h
+  pub moves : m′ ≡ written (built s (length h) (length m)) moves-of m
