@@ -1,0 +1,86 @@
+-- Document 01's starred examples in one table: the bytes of a book, what a build of it gives, and questions about it with their answers.
+-- The tables lent are as long as any book needs: 64 heads, and 3 numbers for each of 5,120 transitions.
+use mathlib.Core.Bool.{Bool, true, false}
+use mathlib.Core.List.{List, [], _∷_}
+use mathlib.Core.Path.{_≡_}
+use Prim.Native.Nat.{ℕ}
+use Rattle.roles.specs.Role.{Chain}
+use Rattle.roles.specs.Rule.{Book}
+use Rattle.format.specs.Result.{Result, map-result}
+use Rattle.format.specs.Result.Result.{refused, accepted}
+use Rattle.causes.specs.Built.{states-of, count-of, heads-of, built, written}
+use Rattle.automata.specs.Every.{Every}
+use Rattle.answers.specs.Reply.{Replied}
+
+pub record Question : Type 0 where
+  pub role : ℕ
+  pub chain : Chain
+  pub answer : Result Bool
+
+-- first: the numbers of states and transitions, or the refusal's number and value; heads: the initial states written, none where refused
+pub record Example : Type 0 where
+  pub book : List ℕ
+  pub first : Result (ℕ × ℕ)
+  pub heads : List ℕ
+  pub questions : List Question
+
+-- the bytes of a book: the mark, version 1, how many names and rules, and the rules
+abbrev bytes : (names rules : ℕ) → List ℕ → List ℕ
+bytes n k rules = 0x52 ∷ 0x4C ∷ 0x42 ∷ 0x01 ∷ 0x00 ∷ n ∷ k ∷ 0x00 ∷ rules
+
+abbrev ask : ℕ → Chain → Result Bool → Question
+ask r w a = record { role = r; chain = w; answer = a }
+
+-- a book that is refused
+abbrev refusal : List ℕ → (cause value : ℕ) → Example
+refusal s c v = record { book = s; first = refused c v; heads = []; questions = [] }
+
+unfoldable pub examples : List Example
+examples =
+    -- the hall book: part part to part; part sits to sits; sits let to due
+    record {
+      book =
+          bytes 0x04 0x03
+          (0x00 ∷ 0x02 ∷ 0x00 ∷ 0x00
+          ∷ 0x02 ∷ 0x02 ∷ 0x00 ∷ 0x02
+          ∷ 0x06 ∷ 0x02 ∷ 0x02 ∷ 0x04
+          ∷ []);
+      first = accepted (16, 18);
+      heads = 0 ∷ 2 ∷ 6 ∷ 8 ∷ [];
+      questions =
+          -- the five questions put to the program
+          ask 0x06 (0x00 ∷ 0x00 ∷ 0x02 ∷ 0x04 ∷ []) (accepted true)
+          ∷ ask 0x06 (0x02 ∷ 0x00 ∷ 0x04 ∷ []) (accepted false)
+          ∷ ask 0x07 (0x05 ∷ 0x03 ∷ 0x01 ∷ []) (accepted true)
+          ∷ ask 0x06 [] (refused 13 0)
+          ∷ ask 0x06 (0x08 ∷ []) (refused 14 0)
+          -- due from due
+          ∷ ask 0x06 (0x06 ∷ []) (accepted true)
+          -- sits from part, read as due from due is: the chain sits, asked about part
+          ∷ ask 0x00 (0x02 ∷ []) (accepted false)
+          ∷ [];
+    }
+    -- R to R as rule 0
+    ∷ refusal (bytes 0x01 0x01 (0x00 ∷ 0x01 ∷ 0x00 ∷ [])) 8 0
+    -- S to R, then R to S
+    ∷ refusal (bytes 0x02 0x02 (0x00 ∷ 0x01 ∷ 0x02 ∷ 0x02 ∷ 0x01 ∷ 0x00 ∷ [])) 8 1
+    -- inv(R) to R, then R to inv(R)
+    ∷ refusal (bytes 0x01 0x02 (0x00 ∷ 0x01 ∷ 0x01 ∷ 0x01 ∷ 0x01 ∷ 0x00 ∷ [])) 7 1
+    -- one name, no rule
+    ∷ record { book = bytes 0x01 0x00 []; first = accepted (2, 1); heads = 0 ∷ []; questions = [] }
+    -- no name
+    ∷ refusal (bytes 0x00 0x00 []) 4 0
+    ∷ []
+
+-- what a build of the book gives, and the two numbers of its first line
+abbrev pub build : Example → Result Book
+build e = built (e .book) 64 15360
+
+abbrev pub counts : Book → ℕ × ℕ
+counts b = (states-of b, count-of b)
+
+-- what the table says of an example is so
+pub record Holds (e : Example) : Type 0 where
+  pub first : map-result counts (build e) ≡ e .first
+  pub heads : written (build e) heads-of [] ≡ e .heads
+  pub questions : Every (λ (q : Question). Replied (e .book) 64 15360 (q .role) (q .chain) (q .answer)) (e .questions)

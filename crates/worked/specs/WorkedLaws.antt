@@ -1,0 +1,77 @@
+-- Document 01's starred examples hold: one test, computed over the whole table, and one law that turns a passed test into what is stated.
+use mathlib.Core.Bool.{Bool, true, decide, _&&_}
+use mathlib.Core.List.{List, []}
+use mathlib.Core.Path.{_≡_, refl, subst}
+use Prim.Native.Nat.{ℕ}
+use Rattle.roles.specs.Tests.{and-left, and-right}
+use Rattle.roles.specs.Role.{name, polarity, inv, inv-chain, same-chain}
+use Rattle.roles.specs.RoleLaws.{same-chain-sound}
+use Rattle.roles.specs.Rule.{Book, inverse, same-rule}
+use Rattle.order.specs.Closure.{reaches, with-inner}
+use Rattle.order.specs.Shape.{leads, trails, shape}
+use Rattle.tables.specs.Tables.{rules-of, has-symmetric, has-transitive, shapes, row-size, rows-size, row-transitions, rows-transitions, letters, back, size-of, transitions-of, roots-from, transitions-from, states-from, numbers}
+use Rattle.format.specs.Result.{Result, map-result}
+use Rattle.format.specs.Result.Result.{refused, accepted}
+use Rattle.format.specs.Format.{word, front, named, one-rule, rules-from, decode, repeats, distinct, read}
+use Rattle.causes.specs.Ordered.{order-from, ordered}
+use Rattle.causes.specs.Built.{heads-of, moves-of, fitting, built, written}
+use Rattle.queries.specs.Query.{transitions-in, heads-fit, transitions-fit, tables-fit, query, asked}
+use Rattle.answers.specs.Reply.{Replied}
+use Rattle.answers.specs.Reply.Replied.{turned-away, settled}
+use Rattle.answers.specs.ReplyLaws.{decided}
+use Rattle.automata.specs.Every.{Every}
+use Rattle.worked.specs.Worked.{Question, Example, counts, build, examples, Holds}
+use Rattle.worked.specs.Tests.{all, all-every, among, same-pair, same-pair-sound, same-result, same-result-sound, same-answer, same-answer-sound}
+use Rattle.worked.specs.Search.{predecessors, closure, closed, starts, exhaustive, found, answers}
+use Rattle.worked.specs.SearchLaws.{answers-answered}
+
+-- a question has its answer, where a build gave a book or a refusal
+replies : Result Book → Question → Bool
+replies (refused c v) q = same-answer (refused c v) (q .answer)
+replies (accepted b) q = answers (heads-of b) (moves-of b) (q .role) (q .chain) (q .answer)
+
+replies-replied : (s : List ℕ) (q : Question) → replies (built s 64 15360) q ≡ true → Replied s 64 15360 (q .role) (q .chain) (q .answer)
+unfolding replies
+replies-replied s q = by-result (built s 64 15360) refl
+  where
+    by-result : (r : Result Book) → built s 64 15360 ≡ r → replies r q ≡ true → Replied s 64 15360 (q .role) (q .chain) (q .answer)
+    by-result (refused c v) e h =
+        subst (Replied s 64 15360 (q .role) (q .chain)) (same-answer-sound (refused c v) (q .answer) h) (turned-away c v e)
+    by-result (accepted b) e h =
+        settled b (q .answer) e
+        (decided s 64 15360 b e (q .role) (q .chain) (q .answer)
+        (answers-answered (heads-of b) (moves-of b) (q .role) (q .chain) (q .answer) h))
+
+-- the test of an example
+test : Example → Bool
+test e =
+    same-result same-pair (map-result counts (build e)) (e .first)
+    && same-chain (written (build e) heads-of []) (e .heads)
+    && all (replies (build e)) (e .questions)
+
+-- the law: an example that passes holds
+test-holds : (e : Example) → test e ≡ true → Holds e
+unfolding test
+test-holds e h =
+    let first : Bool = same-result same-pair (map-result counts (build e)) (e .first) in
+    let heads : Bool = same-chain (written (build e) heads-of []) (e .heads) in
+    let questions : Bool = all (replies (build e)) (e .questions) in
+    let both : (first && heads) ≡ true = and-left (first && heads) questions h in
+    record {
+      first = same-result-sound same-pair same-pair-sound (map-result counts (build e)) (e .first) (and-left first heads both);
+      heads = same-chain-sound (written (build e) heads-of []) (e .heads) (and-right first heads both);
+      questions = all-every (replies (build e)) _ (replies-replied (e .book)) (e .questions) (and-right (first && heads) questions h);
+    }
+
+-- every example passes, by evaluation of the definitions from a book's bytes to its tables and of the search in these
+test-passed : all test examples ≡ true
+unfolding test replies examples all among same-pair same-result decide predecessors closure closed starts exhaustive found answers
+    built fitting ordered order-from read decode distinct repeats rules-from one-rule front named word
+    inverse inv-chain inv name polarity same-rule same-chain reaches with-inner shape leads trails
+    rules-of has-symmetric has-transitive shapes row-size rows-size row-transitions rows-transitions letters back size-of transitions-of
+    roots-from transitions-from states-from numbers transitions-in heads-fit transitions-fit tables-fit query asked
+test-passed = refl
+
+-- every example of the table holds
+pub worked : Every Holds examples
+worked = all-every test Holds test-holds examples test-passed
