@@ -1,0 +1,45 @@
+-- What answering the questions of a block promises.
+use mathlib.Core.Bool.{Bool, cond, _&&_}
+use mathlib.Core.List.{List, [], _++_}
+use mathlib.Core.Path.{_≡_}
+use Prim.Native.Nat.{ℕ, _+_, _<_, _≤_}
+use lib.Dec.{leb}
+use lib.ListN.{length, getD, take, drop}
+use lib.Seq.{slice}
+use Rattle.format.specs.Result.{Result}
+use Rattle.queries.specs.Query.{Answered}
+use Rattle.transcripts.specs.Lines.{answer-line}
+use Rattle.transcripts.specs.Transcript.{next, Transcript}
+use Rattle.transcripts.specs.Transcript.Next.{nothing, part}
+use Rattle.transcriber.specs.declared.block.Progress.{Progress}
+use Rattle.transcriber.specs.Puts.{Puts}
+
+-- lines for a front part of the input q are put into the buffer: whatever follows on the input, the lines for the rest of it, with the numbers
+-- from k′ on, complete them
+pub record Advanced (hs ms : List ℕ) (k : ℕ) (q out : List ℕ) (k′ read written : ℕ) (out′ : List ℕ) : Type 0 where
+  pub lines : List ℕ
+  pub puts : Puts out 0 lines out′ written
+  pub within : read ≤ length q
+  pub completes : (more rest : List ℕ) → Transcript (Answered hs ms) k′ (drop read q ++ more) rest
+      → Transcript (Answered hs ms) k (q ++ more) (lines ++ rest)
+
+-- why no more is read: no whole question is left, or no room for a line, or no number of 64 bits
+pub data Stopped (q out : List ℕ) (p : Progress) : Type 0 where
+  nothing-left : next (drop (p .read) q) ≡ nothing → Stopped q out p
+  part-left : next (drop (p .read) q) ≡ part → Stopped q out p
+  full : length out < p .written + 64 → Stopped q out p
+  counted-out : 18446744073709551615 ≤ p .number → Stopped q out p
+
+pub record Advances (hs ms : List ℕ) (k : ℕ) (q out out′ : List ℕ) (p : Progress) : Type 0 where
+  pub advanced : Advanced hs ms k q out (p .number) (p .read) (p .written) out′
+  pub stopped : Stopped q out p
+
+-- the line of the whole question of so many links at the front of s is put into the buffer
+pub record Answers (hs ms : List ℕ) (k : ℕ) (s : List ℕ) (links : ℕ) (out : List ℕ) (at : ℕ) (out′ : List ℕ) (end : ℕ) : Type 0 where
+  pub answer : Result Bool
+  pub answered : Answered hs ms (getD s 0 0) (take links (drop 3 s)) answer
+  pub puts : Puts out at (answer-line k answer) out′ end
+
+-- the bytes from one place up to another, where there are such places
+abbrev pub kept : (from end : ℕ) → List ℕ → List ℕ
+kept from end s = cond (leb from end && leb end (length s)) (slice from end s) []

@@ -1,0 +1,23 @@
+-- What the first line says of a build, and what the last line says of the end of the input.
+use mathlib.Core.List.{List, []}
+use Prim.Native.Nat.{ℕ}
+use Rattle.format.specs.Result.{Result, map-result}
+use Rattle.transcripts.specs.Lines.{cut-line}
+use Rattle.transcripts.specs.Transcript.{Next, next}
+use Rattle.transcripts.specs.Transcript.Next.{nothing, part, whole}
+use Rattle.builder.specs.declared.Counts.{Counts}
+use Rattle.builder.specs.declared.Outcome.{Outcome}
+use Rattle.builder.specs.Built.{says}
+
+-- the numbers of states and transitions, or the refusal
+abbrev pub outcome-says : Outcome → Result (ℕ × ℕ)
+outcome-says r = map-result (λ (c : Counts). (c .states, c .transitions)) (says r)
+
+-- the line of question k where it is only a part
+abbrev pub cut-off : ℕ → Next → List ℕ
+cut-off k nothing = []
+cut-off k part = cut-line k
+cut-off k (whole r w rest) = []
+
+abbrev pub ending : ℕ → List ℕ → List ℕ
+ending k q = cut-off k (next q)

@@ -1,0 +1,91 @@
+// The lines. Each has at most 64 bytes: two numbers of at most 20 digits, and words.
+ghost use mathlib.Core.List.{_++_};
+ghost use Prim.Native.Nat.{_+_, _≤_};
+ghost use lib.ListN.{length};
+ghost use Rattle.answerer.specs.Answer.{says};
+ghost use Rattle.transcripts.specs.Lines.{decimal, space, end-line, refused-word, first-line, answer-line, cut-line};
+ghost use Rattle.transcriber.specs.Puts.{Puts};
+ghost use Rattle.transcriber.specs.Said.{outcome-says, ending};
+use crate::question::Question;
+use crate::question::find;
+use crate::text::put;
+use crate::text::put_number;
+use answerer::Answer;
+use builder::Outcome;
+
+// Puts the first line at the front of the buffer: the counts of the tables built, or the refusal; returns its length.
+pub fn first_line(outcome: Outcome, out: &mut [u8; 64]) -> usize
+    ensures { λ r. ⌜ Puts (now (out .entry)) 0 (first-line (outcome-says outcome)) (now (out .exit)) r ⌝ }
+{
+    match outcome {
+        Outcome::Built(counts) => put_pair(
+            out,
+            b"book ",
+            counts.states as u64,
+            counts.transitions as u64,
+        ),
+        Outcome::Refused(refusal) => put_pair(
+            out,
+            b"book refused ",
+            reader::cause(refusal) as u64,
+            reader::value(refusal) as u64,
+        ),
+    }
+}
+
+// Puts a line at the front of the buffer: a word, a number, a space and a number.
+fn put_pair(out: &mut [u8], word: &[u8], first: u64, second: u64) -> usize
+    requires { ⌜ length (now word) ≤ 13 ⌝ }
+    requires { ⌜ 64 ≤ length (now out) ⌝ }
+    ensures { λ r. ⌜ Puts (now (out .entry)) 0 (now (word .entry) ++ decimal first ++ space ++ decimal second ++ end-line) (now (out .exit)) r ⌝ }
+{
+    let start = put(out, 0, word);
+    let middle = put_number(out, start, first);
+    let next = put(out, middle, b" ");
+    let last = put_number(out, next, second);
+    put(out, last, b"\n")
+}
+
+// Puts the line of a question at a place; returns the place after it.
+pub(crate) fn put_answer(out: &mut [u8], at: usize, number: u64, answer: Answer) -> usize
+    requires { ⌜ at + 64 ≤ length (now out) ⌝ }
+    ensures { λ r. ⌜ Puts (now (out .entry)) at (answer-line number (says answer)) (now (out .exit)) r ⌝ }
+{
+    let start = put_number(out, at, number);
+    match answer {
+        Answer::Yes => put(out, start, b" yes\n"),
+        Answer::No => put(out, start, b" no\n"),
+        Answer::Refused(refusal) => put_refusal(out, start, answerer::cause(refusal) as u64),
+    }
+}
+
+// Puts the end of a refused question's line at a place; returns the place after it.
+fn put_refusal(out: &mut [u8], at: usize, cause: u64) -> usize
+    requires { ⌜ at + 30 ≤ length (now out) ⌝ }
+    ensures { λ r. ⌜ Puts (now (out .entry)) at (refused-word ++ decimal cause ++ end-line) (now (out .exit)) r ⌝ }
+{
+    let start = put(out, at, b" refused ");
+    let end = put_number(out, start, cause);
+    put(out, end, b"\n")
+}
+
+// Puts the line of the input's end at the front of the buffer: where it is a part of a question, that this is cut; else nothing. Returns its length.
+pub fn last_line(number: u64, input: &[u8], out: &mut [u8; 64]) -> usize
+    ensures { λ r. ⌜ Puts (now (out .entry)) 0 (ending number (now (input .entry))) (now (out .exit)) r ⌝ }
+{
+    let found = find(input, 0);
+    match found {
+        Question::Nothing => 0,
+        Question::Part => put_cut(out, number),
+        Question::Whole(_) => 0,
+    }
+}
+
+// Puts the line of a question that is cut at the front of the buffer; returns its length.
+fn put_cut(out: &mut [u8], number: u64) -> usize
+    requires { ⌜ 64 ≤ length (now out) ⌝ }
+    ensures { λ r. ⌜ Puts (now (out .entry)) 0 (cut-line number) (now (out .exit)) r ⌝ }
+{
+    let start = put_number(out, 0, number);
+    put(out, start, b" cut\n")
+}

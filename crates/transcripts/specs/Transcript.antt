@@ -1,0 +1,40 @@
+-- The questions on the program's input, and what it writes for a book and for them.
+use mathlib.Core.Bool.{Bool, cond}
+use mathlib.Core.List.{List, [], _∷_, _++_}
+use mathlib.Core.Path.{_≡_}
+use Prim.Native.Nat.{ℕ, suc, _+_, _*_}
+use lib.Dec.{leb}
+use lib.ListN.{length, take, drop}
+use Rattle.roles.specs.Role.{Chain}
+use Rattle.roles.specs.Rule.{Book}
+use Rattle.format.specs.Result.{Result}
+use Rattle.format.specs.Result.Result.{refused, accepted}
+use Rattle.causes.specs.Built.{states-of, count-of, built}
+use Rattle.answers.specs.Reply.{Decided}
+use Rattle.transcripts.specs.Lines.{first-line, answer-line, cut-line}
+
+-- what stands at the front of the input: nothing, a part of a question, or a whole one (role, chain) and the input after it
+pub data Next : Type 0 where
+  nothing : Next
+  part : Next
+  whole : ℕ → Chain → List ℕ → Next
+
+-- a question is a role byte, the chain's length, 16 bits, low byte first, and the chain
+unfoldable pub next : List ℕ → Next
+next [] = nothing
+next (r ∷ []) = part
+next (r ∷ low ∷ []) = part
+next (r ∷ low ∷ high ∷ s) = cond (leb (low + 256 * high) (length s)) (whole r (take (low + 256 * high) s) (drop (low + 256 * high) s)) part
+
+-- the lines for the questions on the input, numbered from k on, where `Says` gives the answers
+pub data Transcript (Says : ℕ → Chain → Result Bool → Type 0) : ℕ → List ℕ → List ℕ → Type 0 where
+  ended : (k : ℕ) (q : List ℕ) → next q ≡ nothing → Transcript Says k q []
+  cut : (k : ℕ) (q : List ℕ) → next q ≡ part → Transcript Says k q (cut-line k)
+  answered : (k : ℕ) (q : List ℕ) (r : ℕ) (w : Chain) (rest : List ℕ) (a : Result Bool) (lines : List ℕ) → next q ≡ whole r w rest → Says r w a
+      → Transcript Says (suc k) rest lines → Transcript Says k q (answer-line k a ++ lines)
+
+-- all that the program writes for a book's bytes and an input
+pub data Session (s q : List ℕ) : List ℕ → Type 0 where
+  turned-away : (cause value : ℕ) → built s 64 15360 ≡ refused cause value → Session s q (first-line (refused cause value))
+  served : (b : Book) (lines : List ℕ) → built s 64 15360 ≡ accepted b → Transcript (Decided b) 0 q lines
+      → Session s q (first-line (accepted (states-of b, count-of b)) ++ lines)

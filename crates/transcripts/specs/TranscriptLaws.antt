@@ -1,0 +1,55 @@
+-- Whole questions stay whole where the input goes on, and answers by tables are answers by derivation.
+use mathlib.Core.Bool.{Bool}
+use mathlib.Core.List.{List, [], _∷_, _++_}
+use mathlib.Core.Path.{_≡_, refl}
+use Prim.Native.Nat.{ℕ, suc, _+_, _*_, _<_, _≤_}
+use native.Mathlib.Omega.{arith}
+use borrow.Author.Tests.{le-leb, lt-leb}
+use lib.ListN.{length, getD, take, drop, length-append}
+use lib.Seq.{take-append-le, drop-append-le, drop-drop}
+use Rattle.roles.specs.Role.{Chain}
+use Rattle.format.specs.Result.{Result}
+use Rattle.transcripts.specs.Transcript.{Next, next, Transcript}
+use Rattle.transcripts.specs.Transcript.Next.{part, whole}
+use Rattle.transcripts.specs.Transcript.Transcript.{ended, cut, answered}
+
+-- how many links a question says that it has
+abbrev pub links-of : List ℕ → ℕ
+links-of s = getD s 1 0 + 256 * getD s 2 0
+
+-- the question at the front is whole, and stays so where the input goes on
+pub next-whole : (s more : List ℕ) → 3 + links-of s ≤ length s
+    → next (s ++ more) ≡ whole (getD s 0 0) (take (links-of s) (drop 3 s)) (drop (3 + links-of s) s ++ more)
+unfolding next
+next-whole [] more h = absurd (let f : ⊥ = omega (arith, h) in f)
+next-whole (r ∷ []) more h = absurd (let f : ⊥ = omega (arith, h) in f)
+next-whole (r ∷ low ∷ []) more h = absurd (let f : ⊥ = omega (arith, h) in f)
+next-whole (r ∷ low ∷ high ∷ s) more h =
+    let n : ℕ = low + 256 * high in
+    let fits : n ≤ length s = omega (arith, h) in
+    let longer : n ≤ length (s ++ more) = omega (arith, fits, length-append s more) in
+    rw (
+      le-leb n (length (s ++ more)) longer,
+      take-append-le n s more fits,
+      drop-append-le n s more fits,
+      ← drop-drop n 3 (r ∷ low ∷ high ∷ s),
+    )
+    refl
+
+-- there is only a part of a question
+pub next-part : (s : List ℕ) → 1 ≤ length s → length s < 3 + links-of s → next s ≡ part
+unfolding next
+next-part [] some h = absurd (let f : ⊥ = omega (arith, some) in f)
+next-part (r ∷ []) some h = refl
+next-part (r ∷ low ∷ []) some h = refl
+next-part (r ∷ low ∷ high ∷ s) some h =
+    let short : length s < low + 256 * high = omega (arith, h) in
+    rw (lt-leb (low + 256 * high) (length s) short) refl
+
+-- answers that imply others
+pub transcript-map : (P Q : ℕ → Chain → Result Bool → Type 0) → ((r : ℕ) (w : Chain) (a : Result Bool) → P r w a → Q r w a) → (k : ℕ) (q out : List ℕ)
+    → Transcript P k q out → Transcript Q k q out
+transcript-map P Q f _ _ _ (ended k q e) = ended k q e
+transcript-map P Q f _ _ _ (cut k q e) = cut k q e
+transcript-map P Q f _ _ _ (answered k q r w rest a lines e s t) =
+    answered k q r w rest a lines e (f r w a s) (transcript-map P Q f (suc k) rest lines t)
