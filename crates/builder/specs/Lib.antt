@@ -8,3 +8,4 @@ pub mod RootsLaws
 pub mod Built
 pub mod BuiltLaws
 pub mod BuildLaws
+pub mod WrittenLaws

@@ -12,6 +12,7 @@ use Rattle.transcripts.specs.Transcript.Transcript.{answered}
 use Rattle.transcripts.specs.TranscriptLaws.{links-of, next-whole}
 use Rattle.answerer.specs.declared.answer.Answer.{Answer}
 use Rattle.answerer.specs.Answer.{says}
+use Rattle.transcriber.specs.declared.block.Progress.{Progress}
 use Rattle.transcriber.specs.declared.question.Question.{Question}
 use Rattle.transcriber.specs.declared.question.Question.the-variants.{Whole}
 use Rattle.transcriber.specs.Puts.{Puts}
@@ -91,3 +92,8 @@ module _ (hs ms : List ℕ) (k : ℕ) (q out : List ℕ) where
   stopped-found k′ read written out′ a _ (found-nothing e) other = record { advanced = a; stopped = nothing-left e }
   stopped-found k′ read written out′ a _ (found-part e) other = record { advanced = a; stopped = part-left e }
   stopped-found k′ read written out′ a _ (found-whole links e long) other = absurd (other links refl)
+
+-- the same tables under other names
+pub advances-as : {hs ms hs′ ms′ q out out′ : List ℕ} {k : ℕ} {p : Progress} → hs ≡ hs′ → ms ≡ ms′ → Advances hs ms k q out out′ p
+    → Advances hs′ ms′ k q out out′ p
+advances-as e f a = rw (← e, ← f) a

@@ -5,6 +5,7 @@ use Prim.Native.Nat.{ℕ, suc, _+_, _<_, _≤_}
 use native.Mathlib.Omega.{arith}
 use lib.ListN.{length, getD, set, take-append-drop, take, drop, length-append, length-drop}
 use lib.Seq.{take-all, set-split, take-suc, length-take-le, take-at, drop-at, drop-drop}
+use Rattle.io.specs.Counts.{Counts}
 use Rattle.transcripts.specs.Lines.{first-line, answer-line}
 use Rattle.answerer.specs.declared.answer.Answer.{Answer}
 use Rattle.answerer.specs.Answer.{says}
@@ -108,3 +109,9 @@ puts-answer k a v e p f = puts-as p (f ∙ ap (λ (x : Answer). answer-line k (s
 pub puts-outcome : {out text out′ : List ℕ} {at end : ℕ} (a v : Outcome) → a ≡ v → Puts out at text out′ end → text ≡ first-line (outcome-says v)
     → Puts out at (first-line (outcome-says a)) out′ end
 puts-outcome a v e p f = puts-as p (f ∙ ap (λ (x : Outcome). first-line (outcome-says x)) (sym e))
+
+-- what is put at the front can be lent as the front of the buffer
+pub puts-counts : {out text out′ : List ℕ} {at end : ℕ} → Puts out at text out′ end → Counts end out′
+puts-counts {out} {text} {out′} {at} {end} p =
+    let within : end ≤ length out′ = rw (puts-length out text out′ at end p) (p .fits) in
+    (within, sym (length-take-le end out′ within))

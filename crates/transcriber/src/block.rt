@@ -1,12 +1,13 @@
 // Blocks of input: the whole questions at the front of one are answered, and what is left is kept for the next.
-ghost use Prim.Native.Nat.{ℕ, _+_, _<_, _≤_};
-ghost use lib.ListN.{length, drop};
+ghost use mathlib.Core.Path.{_≡_};
+ghost use Prim.Native.Nat.{_+_, _*_, _≤_};
+ghost use lib.ListN.{length, take, drop};
 ghost use Rattle.transcriber.specs.Puts.{Puts};
-ghost use Rattle.transcriber.specs.Found.{Found};
 ghost use Rattle.transcriber.specs.Advances.{Advances, Answers, kept};
 use crate::line::put_answer;
 use crate::question::Question;
 use crate::question::find;
+use builder::Counts;
 
 // How far the questions are answered: the number of the next one, and how many bytes are read and written.
 pub struct Progress {
@@ -15,15 +16,49 @@ pub struct Progress {
     pub written: usize,
 }
 
-// Answers the whole questions at the front of the input, a line each, numbered from `number` on, while 64 bytes are left for a line. What is not
-// read is the front of the next block; what is not written keeps its value.
+// Answers the whole questions at the front of the input, a line each, numbered from `number` on, while 64 bytes are left for a line. The tables
+// are the numbers that a build with these counts has written. What is not read is the front of the next block; what is not written keeps its value.
 pub fn answer_all(
     heads: &[u16],
     moves: &[u16],
+    counts: Counts,
     number: u64,
     input: &[u8],
     out: &mut [u8],
 ) -> Progress
+    ensures { λ r. ⌜ Advances (take (counts .names) (now (heads .entry))) (take (3 * counts .transitions) (now (moves .entry))) number (now (input .entry)) (now (out .entry)) (now (out .exit)) r ⌝ }
+{
+    answer_each(
+        first(heads, counts.names),
+        triples(moves, counts.transitions),
+        number,
+        input,
+        out,
+    )
+}
+
+// The first numbers of a table, as many as there are up to the count.
+fn first(table: &[u16], count: usize) -> &[u16]
+    ensures { λ r. ⌜ now r ≡ take count (now (table .entry)) ⌝ }
+{
+    if table.len() < count {
+        return table;
+    }
+    &table[..count]
+}
+
+// The numbers of the first transitions, three each, as many as there are up to the count.
+fn triples(moves: &[u16], count: usize) -> &[u16]
+    ensures { λ r. ⌜ now r ≡ take (3 * count) (now (moves .entry)) ⌝ }
+{
+    if moves.len() / 3 < count {
+        return moves;
+    }
+    &moves[..3 * count]
+}
+
+// Answers the whole questions at the front of the input by the tables.
+fn answer_each(heads: &[u16], moves: &[u16], number: u64, input: &[u8], out: &mut [u8]) -> Progress
     ensures { λ r. ⌜ Advances (now (heads .entry)) (now (moves .entry)) number (now (input .entry)) (now (out .entry)) (now (out .exit)) r ⌝ }
 {
     let mut next = number;

@@ -1,7 +1,8 @@
 -- `derived` meets its contract: the tables of an accepted book are built and asked, and their answer is that of derivation.
 use native.Mathlib.Omega.{arith}
 use borrow.Author.Needs.{needs}
-use Rattle.deriver.specs.RepliesLaws.{few-numbers, names-lent, numbers-lent, replies-settled, replies-refused}
+use Rattle.builder.specs.WrittenLaws.{few-numbers, names-lent, numbers-lent}
+use Rattle.deriver.specs.RepliesLaws.{replies-settled, replies-refused}
 use Rattle.deriver.proofs.derived.Statement.{statement}
 use Rattle.deriver.proofs.derived.Tie as tie
 

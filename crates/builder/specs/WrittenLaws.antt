@@ -1,0 +1,100 @@
+-- What a build that succeeds has written: the tables of the book, at the front of the lent ones.
+use mathlib.Core.List.{List, []}
+use mathlib.Core.Path.{_≡_, refl, sym, ap, _∙_}
+use Prim.Native.Nat.{ℕ, _*_, _≤_}
+use native.Mathlib.Omega.{arith}
+use lib.ListN.{length, take, drop, length-append, length-drop}
+use lib.Seq.{take-append-seam}
+use Rattle.roles.specs.Rule.{Book}
+use Rattle.tables.specs.Tables.{transitions}
+use Rattle.format.specs.Result.{Result, map-result}
+use Rattle.format.specs.Result.Result.{refused, accepted}
+use Rattle.format.specs.ResultLaws.{refused-accepted, accepted-injective}
+use Rattle.causes.specs.Built.{count-of, heads-of, moves-of, built, over}
+use Rattle.causes.specs.BuiltLaws.{Passed, built-passed}
+use Rattle.layout.specs.Pieces.{length-numbers, length-roots}
+use Rattle.reader.specs.declared.refusal.Refusal.{Refusal}
+use Rattle.reader.specs.Refusal.{cause-of, value-of}
+use Rattle.builder.specs.declared.Counts.{Counts}
+use Rattle.builder.specs.declared.Outcome.the-variants.{Built, Refused}
+use Rattle.builder.specs.Built.{counts-of, says, Builds}
+
+-- new numbers over the front of old ones: as long as these, and the new ones are its front
+over-length : (new old : List ℕ) → length new ≤ length old → length (over new old) ≡ length old
+over-length new old h = omega (arith, length-append new (drop (length new) old), length-drop (length new) old)
+
+over-front : (n : ℕ) (new old : List ℕ) → n ≡ length new → take n (over new old) ≡ new
+over-front n new old h = rw h (take-append-seam new (drop (length new) old))
+
+-- the book that a build has counted
+pub record Counted (s h m : List ℕ) (c : Counts) : Type 0 where
+  pub book : Book
+  pub accepts : built s (length h) (length m) ≡ accepted book
+  pub same : c ≡ counts-of book
+
+-- a book that stands for none
+counted-none : Book
+counted-none = record { names = 0; rules = [] }
+
+module _ (s h m h′ m′ : List ℕ) where
+  pub counted : (c : Counts) → Builds s h m h′ m′ (Built c) → Counted s h m c
+  counted c p = by-result (built s (length h) (length m)) refl (p .answer)
+    where
+      by-result : (r : Result Book) → built s (length h) (length m) ≡ r → accepted c ≡ map-result counts-of r → Counted s h m c
+      by-result (refused cause value) e f = absurd (refused-accepted cause value c (sym f))
+      by-result (accepted b) e f = record { book = b; accepts = e; same = accepted-injective c (counts-of b) f }
+
+  module _ (c : Counts) (p : Builds s h m h′ m′ (Built c)) where
+    pub own : Counted s h m c
+    own = counted c p
+
+    passed : Passed s (length h) (length m) (own .book)
+    passed = built-passed (length h) (length m) s (own .book) (own .accepts)
+
+    roots : length (heads-of (own .book)) ≡ own .book .names
+    roots = length-roots (own .book .rules) (own .book .names) (own .book .names) 0 0
+
+    three : length (moves-of (own .book)) ≡ 3 * count-of (own .book)
+    three = length-numbers (transitions (own .book .names) (own .book .rules))
+
+    names : c .names ≡ own .book .names
+    names = ap (λ (k : Counts). k .names) (own .same)
+
+    count : c .transitions ≡ count-of (own .book)
+    count = ap (λ (k : Counts). k .transitions) (own .same)
+
+    pub few-numbers : 3 * c .transitions ≤ 15360
+    few-numbers = omega (arith, count, passed .count)
+
+    -- the tables after the build, and the numbers written
+    wrote-heads : h′ ≡ over (heads-of (own .book)) h
+    wrote-heads = p .heads ∙ rw (own .accepts) refl
+
+    wrote-moves : m′ ≡ over (moves-of (own .book)) m
+    wrote-moves = p .moves ∙ rw (own .accepts) refl
+
+    pub names-lent : c .names ≤ length h′
+    names-lent =
+        let l : length (over (heads-of (own .book)) h) ≡ length h = over-length (heads-of (own .book)) h (rw roots (passed .names)) in
+        rw (wrote-heads, l, names) (passed .names)
+
+    pub numbers-lent : 3 * c .transitions ≤ length m′
+    numbers-lent =
+        let l : length (over (moves-of (own .book)) m) ≡ length m = over-length (moves-of (own .book)) m (rw three (passed .numbers)) in
+        rw (wrote-moves, l, count) (passed .numbers)
+
+    pub written-heads : take (c .names) h′ ≡ heads-of (own .book)
+    written-heads = ap (take (c .names)) wrote-heads ∙ over-front (c .names) (heads-of (own .book)) h (names ∙ sym roots)
+
+    pub written-moves : take (3 * c .transitions) m′ ≡ moves-of (own .book)
+    written-moves =
+        ap (take (3 * c .transitions)) wrote-moves
+        ∙ over-front (3 * c .transitions) (moves-of (own .book)) m (ap (λ (k : ℕ). 3 * k) count ∙ sym three)
+
+  -- a build that is refused says why
+  pub refused-by : (x : Refusal) → Builds s h m h′ m′ (Refused x) → built s (length h) (length m) ≡ refused (cause-of x) (value-of x)
+  refused-by x p = by-result (built s (length h) (length m)) (p .answer)
+    where
+      by-result : (t : Result Book) → says (Refused x) ≡ map-result counts-of t → t ≡ refused (cause-of x) (value-of x)
+      by-result (refused cause value) f = sym (ap (map-result (λ (k : Counts). counted-none)) f)
+      by-result (accepted b) f = absurd (refused-accepted (cause-of x) (value-of x) (counts-of b) f)
