@@ -6,3 +6,4 @@ pub mod FoundLaws
 pub mod Advances
 pub mod AdvancesLaws
 pub mod KeptLaws
+pub mod SessionLaws
