@@ -3,28 +3,38 @@ ghost use mathlib.Core.List.{_∷_};
 ghost use mathlib.Core.Path.{_≡_};
 ghost use Prim.Native.Nat.{_≤_};
 ghost use Rattle.format.specs.Format.{named};
+ghost use Rattle.answerer.specs.Check.{passes};
 ghost use Rattle.queries.specs.Query.{transitions-in, heads-fit, transitions-fit, tables-fit, chain-fits};
 
+// What a check of a question says.
+pub(crate) enum Check {
+    Passed,
+    Failed,
+}
+
 // Cause 12: the tables.
-pub(crate) fn tables_fit(heads: &[u16], moves: &[u16]) -> bool
-    ensures { λ r. ⌜ r ≡ tables-fit (now (heads .entry)) (now (moves .entry)) ⌝ }
+pub(crate) fn tables_fit(heads: &[u16], moves: &[u16]) -> Check
+    ensures { λ r. ⌜ passes r ≡ tables-fit (now (heads .entry)) (now (moves .entry)) ⌝ }
 {
     if heads.len() < 1 {
-        return false;
+        return Check::Failed;
     }
     if 64 < heads.len() {
-        return false;
+        return Check::Failed;
     }
     if !heads_fit(heads) {
-        return false;
+        return Check::Failed;
     }
     if moves.len() % 3 != 0 {
-        return false;
+        return Check::Failed;
     }
     if 15360 < moves.len() {
-        return false;
+        return Check::Failed;
     }
-    transitions_fit(moves)
+    if !transitions_fit(moves) {
+        return Check::Failed;
+    }
+    Check::Passed
 }
 
 // Whether each initial state is at most 2,046.
@@ -62,32 +72,32 @@ fn transitions_fit(moves: &[u16]) -> bool
 }
 
 // Cause 13: 1 to 1,024 links.
-pub(crate) fn chain_fits(chain: &[u8]) -> bool
-    ensures { λ r. ⌜ r ≡ chain-fits (now (chain .entry)) ⌝ }
+pub(crate) fn chain_fits(chain: &[u8]) -> Check
+    ensures { λ r. ⌜ passes r ≡ chain-fits (now (chain .entry)) ⌝ }
 {
     if chain.len() < 1 {
-        return false;
+        return Check::Failed;
     }
     if 1024 < chain.len() {
-        return false;
+        return Check::Failed;
     }
-    true
+    Check::Passed
 }
 
 // Cause 14: the role and each link of the chain have a name below `names`.
-pub(crate) fn roles_fit(names: usize, role: u8, chain: &[u8]) -> bool
+pub(crate) fn roles_fit(names: usize, role: u8, chain: &[u8]) -> Check
     requires { ⌜ names ≤ 64 ⌝ }
-    ensures { λ r. ⌜ r ≡ named names (role ∷ now (chain .entry)) ⌝ }
+    ensures { λ r. ⌜ passes r ≡ named names (role ∷ now (chain .entry)) ⌝ }
 {
     if 2 * names <= role as usize {
-        return false;
+        return Check::Failed;
     }
     let mut i = 0;
     while i < chain.len() {
         if 2 * names <= chain[i] as usize {
-            return false;
+            return Check::Failed;
         }
         i += 1;
     }
-    true
+    Check::Passed
 }

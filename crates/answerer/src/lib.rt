@@ -18,6 +18,7 @@ mod states;
 pub use answer::Answer;
 pub use answer::QueryRefusal;
 pub use answer::cause;
+use checks::Check;
 use checks::chain_fits;
 use checks::roles_fit;
 use checks::tables_fit;
@@ -29,15 +30,15 @@ use reading::run;
 pub fn ask(heads: &[u16], moves: &[u16], role: u8, chain: &[u8]) -> Answer
     ensures { λ r. ⌜ Answered (now (heads .entry)) (now (moves .entry)) role (now (chain .entry)) (says r) ⌝ }
 {
-    if !tables_fit(heads, moves) {
+    let Check::Passed = tables_fit(heads, moves) else {
         return Answer::Refused(QueryRefusal::Tables);
-    }
-    if !chain_fits(chain) {
+    };
+    let Check::Passed = chain_fits(chain) else {
         return Answer::Refused(QueryRefusal::Chain);
-    }
-    if !roles_fit(heads.len(), role, chain) {
+    };
+    let Check::Passed = roles_fit(heads.len(), role, chain) else {
         return Answer::Refused(QueryRefusal::Role);
-    }
+    };
     if !accepts(heads, moves, role, chain) {
         return Answer::No;
     }

@@ -44,8 +44,8 @@ module _ (s h m h′ m′ q : List ℕ) (heads : length h ≡ 64) (moves : lengt
       let book = own s h m h′ m′ c p in
       let e : built s 64 15360 ≡ accepted (book .book) = rw (heads, moves) at (book .accepts) in
       let tables : Transcript (Answered (heads-of (book .book)) (moves-of (book .book))) 0 q lines =
-          rw (written-heads s h m h′ m′ c p, written-moves s h m h′ m′ c p) at t in
+      rw (written-heads s h m h′ m′ c p, written-moves s h m h′ m′ c p) at t in
       let derived : Transcript (Decided (book .book)) 0 q lines =
-          transcript-map (Answered (heads-of (book .book)) (moves-of (book .book))) (Decided (book .book))
-          (decided s 64 15360 (book .book) e) 0 q lines tables in
+      transcript-map (Answered (heads-of (book .book)) (moves-of (book .book))) (Decided (book .book))
+      (decided s 64 15360 (book .book) e) 0 q lines tables in
       rw (book .same) (served (book .book) lines e derived)

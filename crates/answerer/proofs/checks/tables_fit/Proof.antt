@@ -28,7 +28,10 @@ transitions-fit-requires : tie.Need-transitions-fit-requires
 transitions-fit-requires c κs = search needs
 
 returns-6 : tie.Need-returns-6
-returns-6 c = (c .transitions-fit .ensures) ∙ sym (moves-left _ _ (c .before .before .before .before .before .before .if1 .left) (c .before .before .before .before .before .if2 .left) (test-passed _ _ (c .before .before .before .before .heads-fit .ensures) (c .before .before .before .if3 .left)) (c .before .before .if4 .left) (c .before .if5 .left))
+returns-6 c = sym (moves-left _ _ (c .before .before .before .before .before .before .before .if1 .left) (c .before .before .before .before .before .before .if2 .left) (test-passed _ _ (c .before .before .before .before .before .heads-fit .ensures) (c .before .before .before .before .if3 .left)) (c .before .before .before .if4 .left) (c .before .before .if5 .left) ∙ test-failed _ _ (c .before .transitions-fit .ensures) (c .if6 .taken))
+
+returns-7 : tie.Need-returns-7
+returns-7 c = sym (moves-left _ _ (c .before .before .before .before .before .before .before .if1 .left) (c .before .before .before .before .before .before .if2 .left) (test-passed _ _ (c .before .before .before .before .before .heads-fit .ensures) (c .before .before .before .before .if3 .left)) (c .before .before .before .if4 .left) (c .before .before .if5 .left) ∙ test-passed _ _ (c .before .transitions-fit .ensures) (c .if6 .left))
 
 pub tables-fit-spec : {M : Type 1} → statement M
 tables-fit-spec =
@@ -41,4 +44,5 @@ tables-fit-spec =
     returns-4
     returns-5
     transitions-fit-requires
-    returns-6)
+    returns-6
+    returns-7)
