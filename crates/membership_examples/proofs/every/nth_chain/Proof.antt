@@ -1,0 +1,33 @@
+-- `nth_chain` is safe and ends.
+use mathlib.Core.Path.{_≡_}
+use Prim.Native.Nat.{_-_}
+use borrow.Author.Needs.{needs}
+use lib.ListN.{length}
+use Rattle.membership_examples.proofs.every.nth_chain.Statement.{statement}
+use Rattle.membership_examples.proofs.every.nth_chain.Tie as tie
+
+abbrev Inv-loop : tie.InvT-loop
+Inv-loop n roles chain₀ rest₀ size₀ chain rest size = length chain ≡ length chain₀
+
+abbrev μ-loop : tie.MeasureT-loop
+μ-loop n roles chain₀ rest₀ size₀ chain rest size = 8 - size
+
+pub nth-chain-spec : {M : Type 1} → statement M
+nth-chain-spec =
+    tie.close
+    (tie.spec
+    Inv-loop
+    μ-loop
+    (λ c. search needs)
+    (λ c. search needs)
+    (λ c. search needs)
+    (λ c. search needs)
+    (λ c κs. search needs)
+    (λ c. search needs)
+    (λ c. search needs)
+    (λ c. search needs)
+    (λ c. search needs)
+    (λ c. search needs)
+    (λ c. search needs)
+    (λ c. search needs)
+    (λ c. search needs))

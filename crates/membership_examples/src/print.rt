@@ -1,0 +1,42 @@
+// What the program writes.
+use crate::slices::wide;
+use answerer::Answer;
+
+pub(crate) fn line(text: &[u8]) {
+    io::write_all(1, text);
+    io::write_all(1, b"\n");
+}
+
+pub(crate) fn label(text: &[u8], n: u64) {
+    io::write_all(1, text);
+    io::print_decimal(1, n);
+}
+
+// What a question is answered with, in document 01's words and numbers.
+pub(crate) fn answer(text: &[u8], answer: Answer) {
+    io::write_all(1, text);
+    match answer {
+        Answer::Yes => {
+            line(b": yes");
+        }
+        Answer::No => {
+            line(b": no");
+        }
+        Answer::Refused(refusal) => {
+            label(b": refused ", answerer::cause(refusal) as u64);
+            line(b"");
+        }
+    }
+}
+
+// The bytes of a book or a chain.
+pub(crate) fn bytes(text: &[u8], s: &[u8]) {
+    io::write_all(1, text);
+    io::write_all(1, b":");
+    let mut i = 0;
+    while i < s.len() {
+        label(b" ", wide(s[i]) as u64);
+        i += 1;
+    }
+    line(b"");
+}
