@@ -1,0 +1,113 @@
+"""The command line: its options, its help, and where faults are shown."""
+
+import argparse
+import sys
+
+from . import commands
+from .engine import VARIABLE
+from .faults import Fault
+
+DESCRIPTION = """\
+A book holds rules over relations, such as "what is part of something that
+sits in a hall sits there too". This tool translates a book between readable
+text, the file book.rlb and OWL, and puts questions to the proved engine.
+It only translates: the engine decides every answer, and whether the rules
+are refused."""
+
+EXAMPLES = """\
+a book as text, hall.txt:
+  names part sits let due
+  part part -> part          # a part of a part is a part
+  part sits -> sits
+  sits let  -> due           # `inv let` is the inverse of let
+
+examples:
+  tools/book pack hall.txt                         writes book.rlb beside it
+  tools/book unpack book.rlb --names part,sits,let,due
+  tools/book ask hall.txt 'due: part part sits let'
+  tools/book ask hall.txt 'inv due: inv let inv sits inv part' 'due: sits'
+  tools/book ask hall < questions.txt              one question a line
+  tools/book to-owl hall.txt -o hall.ofn
+  tools/book from-owl hall.ofn -o hall.txt
+
+`-` as a file is standard input or output. The exit status is 0 where all went
+well, 1 where something was wrong or refused, 2 where the command was wrong.
+docs/TEXT-FORM.md has the whole form. `tools/book COMMAND --help` tells more."""
+
+PACK = "Turns a text into book.rlb. What is wrong with the text is shown as FILE:LINE:COLUMN: message."
+UNPACK = """\
+Turns book.rlb into text. The file has numbers for names, so the text has r0,
+r1 ... unless --names lists others."""
+ASK = """\
+Puts questions to the proved engine and shows its answers. A question is
+ROLE: CHAIN, such as 'due: part part sits let': is the chain derived from the
+role? Without a question given, they are read from standard input, one a line."""
+FROM_OWL = """\
+Turns the role axioms of an OWL 2 ontology in functional-style syntax into
+text. An axiom that a book cannot hold is refused by name."""
+TO_OWL = "Turns a text into an OWL 2 ontology in functional-style syntax, an axiom a rule."
+
+
+def parser() -> argparse.ArgumentParser:
+    raw = argparse.RawDescriptionHelpFormatter
+    top = argparse.ArgumentParser("tools/book", description=DESCRIPTION, epilog=EXAMPLES, formatter_class=raw)
+    kinds = top.add_subparsers(title="commands", metavar="COMMAND", required=True)
+
+    pack = kinds.add_parser("pack", help="text to book.rlb", description=PACK)
+    pack.add_argument("text", metavar="BOOK.txt")
+    pack.add_argument("-o", dest="output", metavar="FILE", help="where to write (default: book.rlb beside BOOK.txt)")
+    pack.set_defaults(run=commands.pack)
+
+    unpack = kinds.add_parser("unpack", help="book.rlb to text", description=UNPACK)
+    unpack.add_argument("book", metavar="book.rlb")
+    unpack.add_argument("--names", metavar="A,B,...", help="the book's names in order")
+    add_output(unpack)
+    unpack.set_defaults(run=commands.unpack)
+
+    ask = kinds.add_parser("ask", help="put questions to the engine", description=ASK)
+    ask.add_argument("book", metavar="FOLDER|BOOK.txt", help="a text, or a folder with book.rlb and perhaps book.txt")
+    ask.add_argument("questions", metavar="QUESTION", nargs="*", help="such as 'due: part part sits let'")
+    ask.add_argument("--engine", metavar="FILE", help=f"the program (default: ${VARIABLE}, else target/bin/engine)")
+    ask.set_defaults(run=commands.ask)
+
+    from_owl = kinds.add_parser("from-owl", help="OWL role axioms to text", description=FROM_OWL)
+    from_owl.add_argument("ontology", metavar="ONTOLOGY.ofn")
+    from_owl.add_argument("--skip", action="store_true", help="leave out what a book cannot hold, and tell of each")
+    add_output(from_owl)
+    from_owl.set_defaults(run=commands.from_owl)
+
+    to_owl = kinds.add_parser("to-owl", help="text to OWL role axioms", description=TO_OWL)
+    to_owl.add_argument("text", metavar="BOOK.txt")
+    add_output(to_owl)
+    to_owl.set_defaults(run=commands.to_owl)
+    return top
+
+
+def add_output(command: argparse.ArgumentParser) -> None:
+    where = "where to write (default: standard output)"
+    command.add_argument("-o", dest="output", metavar="FILE", default="-", help=where)
+
+
+def parse(arguments: list[str]) -> argparse.Namespace:
+    """The options read. Questions may stand after an option too, where argparse alone would not look for them."""
+    top = parser()
+    args, rest = top.parse_known_args(arguments)
+    if rest and ("questions" not in args or any(word.startswith("-") for word in rest)):
+        top.error(f"not understood: {' '.join(rest)}")
+    if rest:
+        args.questions += rest
+    return args
+
+
+def main(arguments: list[str]) -> int:
+    """Runs one command and gives its exit status; faults are shown after what was written."""
+    args = parse(arguments)
+    try:
+        return args.run(args)
+    except Fault as fault:
+        messages = fault.messages
+    except OSError as error:
+        messages = (f"{error.filename or 'output'}: {error.strerror}",)
+    sys.stdout.flush()
+    print(*messages, sep="\n", file=sys.stderr)
+    return 1

@@ -1,0 +1,102 @@
+"""What each command does. A command gives its exit status; what stops it is raised as a Fault."""
+
+import sys
+from argparse import Namespace
+from collections.abc import Sequence
+from pathlib import Path
+
+from . import engine, owl_reader, owl_writer, text_form
+from .asked_book import AskedBook, load
+from .causes import WORDS, Refusal, book_words
+from .faults import Fault
+from .file_format import Malformed, decode, encode
+from .files import read_bytes, read_source, write_bytes
+from .model import Rule
+from .questions import read_questions
+from .source import Source
+
+
+def pack(args: Namespace) -> int:
+    book = text_form.read(read_source(args.text))
+    data = encode(book)
+    output = args.output or str(Path(args.text).with_name("book.rlb"))
+    write_bytes(output, data)
+    if output != "-":
+        print(f"{output}: names {len(book.names)}, rules {len(book.rules)}, bytes {len(data)}")
+    return 0
+
+
+def unpack(args: Namespace) -> int:
+    try:
+        book = decode(read_bytes(args.book))
+    except Malformed as malformed:
+        cause, value = malformed.refusal
+        words = book_words(malformed.refusal, ())
+        raise Fault(f"{args.book}: no well-formed book, cause {cause} with {value}: {words}") from None
+    if args.names is not None:
+        book = book.renamed(option_names(args.names, len(book.names)))
+    write_bytes(args.output, text_form.write(book).encode())
+    return 0
+
+
+def option_names(option: str, count: int) -> tuple[str, ...]:
+    """The names that --names lists, as many as the book has."""
+    source = Source("--names", option.replace(",", " "))
+    names = text_form.read_names(source, [word for line in source.lines() for word in line])
+    if len(names) != count:
+        raise Fault(f"--names: {len(names)} names for a book that has {count}")
+    return names
+
+
+def ask(args: Namespace) -> int:
+    """Puts the questions that can be read, and tells of the others after the answers."""
+    program = engine.find(args.engine)
+    asked = load(args.book)
+    if asked.book is None:
+        return ask_damaged(program, asked)
+    source = Source("question", "\n".join(args.questions)) if args.questions else read_source("-")
+    questions, faults = read_questions(source, asked.book.names)
+    said = engine.ask(program, asked.data, [question.encoded(asked.book.names) for question in questions])
+    if said.refusal:
+        tell_refused(said.refusal, asked.book.rules)
+    elif not questions and not faults.messages:
+        print(f"book: {said.states} states, {said.moves} moves")
+    for question, answer in zip(questions, said.answers):
+        print(f"{question}: {answer_words(answer)}")
+    faults.settle()
+    return 0 if said.all_answered() else 1
+
+
+def ask_damaged(program: Path, asked: AskedBook) -> int:
+    """Bytes in which no book can be read have no names to ask with; the engine still says why."""
+    refusal = engine.ask(program, asked.data, []).refusal
+    if not refusal:
+        raise Fault(f"{program}: accepts bytes that are no book")
+    tell_refused(refusal, ())
+    return 1
+
+
+def tell_refused(refusal: Refusal, rules: Sequence[Rule]) -> None:
+    print(f"book refused {refusal.cause} {refusal.value}: {book_words(refusal, rules)}")
+
+
+def answer_words(answer: str | Refusal) -> str:
+    return answer if isinstance(answer, str) else f"refused {answer.cause}: {WORDS[answer.cause]}"
+
+
+def from_owl(args: Namespace) -> int:
+    source = read_source(args.ontology)
+    gathered = owl_reader.gather(source)
+    if gathered.unheld and not args.skip:
+        raise Fault(*gathered.unheld, f"{source.file}: not translated; --skip leaves such axioms out")
+    book = owl_reader.book_of(gathered)
+    for message in gathered.unheld:
+        print(f"{message} (skipped)", file=sys.stderr)
+    write_bytes(args.output, text_form.write(book).encode())
+    return 0
+
+
+def to_owl(args: Namespace) -> int:
+    book = text_form.read(read_source(args.text))
+    write_bytes(args.output, owl_writer.write(book).encode())
+    return 0

@@ -1,0 +1,709 @@
+"""Tests of tools/book: the text form, book.rlb, OWL and questions. Run: python3 tools/test_book.py
+
+Questions are put to the real engine (RABBITSTEEL_ENGINE, else target/bin/engine); without it those tests are skipped.
+"""
+
+import contextlib
+import io
+import os
+import random
+import re
+import shlex
+import subprocess
+import sys
+import tempfile
+import textwrap
+import unittest
+from pathlib import Path
+from typing import NamedTuple
+from unittest import mock
+
+TOOLS = Path(__file__).resolve().parent
+sys.path.insert(0, str(TOOLS))
+
+from booktext import engine, file_format, owl_reader, owl_writer, text_form  # noqa: E402
+from booktext.causes import WORDS, Refusal  # noqa: E402
+from booktext.command_line import main  # noqa: E402
+from booktext.faults import Fault  # noqa: E402
+from booktext.model import Book, Role, Rule  # noqa: E402
+from booktext.names import generated, trouble  # noqa: E402
+from booktext.source import Source  # noqa: E402
+
+HALL_TEXT = """\
+# The hall book.
+names part sits let due
+
+part part -> part   # a part of a part is a part
+part sits -> sits
+sits let  -> due
+"""
+HALL_BYTES = bytes.fromhex("524C420100040300 00020000 02020002 06020204")
+HALL_BARE = "names part sits let due\n\npart part -> part\npart sits -> sits\nsits let -> due\n"
+
+ENGINE = Path(os.environ.get(engine.VARIABLE) or engine.BUILT).resolve()
+NO_ENGINE = f"no engine at {ENGINE}, so no question is put to it: run `rt check engine` first"
+needs_engine = unittest.skipUnless(ENGINE.is_file(), NO_ENGINE)
+
+
+class Run(NamedTuple):
+    status: int
+    output: str
+    errors: str
+
+
+def run(*arguments: str, stdin: str = "") -> Run:
+    """Runs the tool in this process."""
+    output, errors = io.TextIOWrapper(io.BytesIO(), "utf-8"), io.StringIO()
+    given = io.TextIOWrapper(io.BytesIO(stdin.encode()), "utf-8")
+    with contextlib.redirect_stdout(output), contextlib.redirect_stderr(errors), mock.patch("sys.stdin", given):
+        status = main(list(arguments))
+        output.flush()
+    return Run(status, output.buffer.getvalue().decode("utf-8", "surrogateescape"), errors.getvalue())
+
+
+class InFolder(unittest.TestCase):
+    """Each test works in an empty folder of its own."""
+
+    def setUp(self) -> None:
+        folder = tempfile.TemporaryDirectory()
+        self.addCleanup(folder.cleanup)
+        self.addCleanup(os.chdir, os.getcwd())
+        os.chdir(folder.name)
+        named = mock.patch.dict(os.environ, {engine.VARIABLE: str(ENGINE)})
+        named.start()
+        self.addCleanup(named.stop)
+
+    def write(self, file: str, text: str) -> str:
+        Path(file).parent.mkdir(exist_ok=True)
+        Path(file).write_text(text, encoding="utf-8")
+        return file
+
+
+# Names that try the form: marks inside and at the end, words of the text form and of OWL.
+ODD_NAMES = "_ a-b x. a:b e- due: names inv2 Inv Prefix Ontology A1 _. z-:. owl:topObjectProperty".split()
+
+
+def random_book(rng: random.Random, most_names: int = 64, most_rules: int = 12) -> Book:
+    count = rng.randint(1, most_names)
+    names = tuple(rng.sample(ODD_NAMES + [f"n{number}" for number in range(count)], count))
+
+    def role() -> Role:
+        return Role(rng.choice(names), rng.random() < 0.4)
+
+    def rule() -> Rule:
+        right = role()
+        chain = tuple(role() for _ in range(rng.randint(1, 8)))
+        return Rule(rng.choice([chain, chain, (right, right), (right.inv(),), (right,)]), right)
+
+    return Book(names, tuple(rule() for _ in range(rng.randint(0, most_rules))))
+
+
+def random_books(count: int, seed: int) -> list[Book]:
+    rng = random.Random(seed)
+    return [random_book(rng) for _ in range(count - 1)] + [random_book(rng, 64, 256)]
+
+
+def read_text(text: str) -> Book:
+    return text_form.read(Source("book.txt", text))
+
+
+def read_owl(text: str) -> Book:
+    gathered = owl_reader.gather(Source("o.ofn", text))
+    assert not gathered.unheld, gathered.unheld
+    return owl_reader.book_of(gathered)
+
+
+class HallBook(InFolder):
+    def test_packs_to_the_bytes_of_the_format(self) -> None:
+        self.write("hall/hall.txt", HALL_TEXT)
+        self.assertEqual(run("pack", "hall/hall.txt"), (0, "hall/book.rlb: names 4, rules 3, bytes 20\n", ""))
+        self.assertEqual(Path("hall/book.rlb").read_bytes(), HALL_BYTES)
+
+    def test_output_file(self) -> None:
+        self.write("hall.txt", HALL_TEXT)
+        self.assertEqual(run("pack", "hall.txt", "-o", "x.rlb").status, 0)
+        self.assertEqual(Path("x.rlb").read_bytes(), HALL_BYTES)
+        self.assertFalse(Path("book.rlb").exists())
+        self.assertEqual(run("unpack", "x.rlb", "--names", "part,sits,let,due", "-o", "y.txt"), (0, "", ""))
+        self.assertEqual(Path("y.txt").read_text(), HALL_BARE)
+
+    def test_standard_input_and_output(self) -> None:
+        self.assertEqual(run("pack", "-", "-o", "-", stdin=HALL_TEXT), (0, HALL_BYTES.decode(), ""))
+        self.assertEqual(run("unpack", "-", stdin=HALL_BYTES.decode()).status, 0)
+
+    def test_unpacks(self) -> None:
+        Path("book.rlb").write_bytes(HALL_BYTES)
+        self.assertEqual(run("unpack", "book.rlb", "--names", "part,sits,let,due"), (0, HALL_BARE, ""))
+        generic = "names r0 r1 r2 r3\n\nr0 r0 -> r0\nr0 r1 -> r1\nr1 r2 -> r3\n"
+        self.assertEqual(run("unpack", "book.rlb"), (0, generic, ""))
+
+    def test_names_option(self) -> None:
+        Path("book.rlb").write_bytes(HALL_BYTES)
+        for names, message in [
+            ("a,b,c", "--names: 3 names for a book that has 4"),
+            ("", "--names: 0 names for a book that has 4"),
+            ("a,b,a,c", "--names:1:5: name 'a' is repeated"),
+            ("a,b,inv,c", "--names:1:5: 'inv' is no name: 'inv' is reserved"),
+            ("a,b,c,d/e", "--names:1:7: 'd/e' is no name: '/' cannot stand in a name"),
+        ]:
+            with self.subTest(names):
+                self.assertEqual(run("unpack", "book.rlb", "--names", names), (1, "", message + "\n"))
+
+
+class TextForm(InFolder):
+    def test_spacing_comments_and_line_ends(self) -> None:
+        text = "\ufeff# c\r\n\tnames a b-c#d\r\nnames  _ \r\n\r\na inv b-c->inv _ # x -> y\r\ninv a->a"
+        rules = (Rule((Role("a"), Role("b-c", True)), Role("_", True)), Rule((Role("a", True),), Role("a")))
+        self.assertEqual(text_form.read(Source.decoded("f", text.encode())), Book(("a", "b-c", "_"), rules))
+
+    def test_names_is_a_name_too(self) -> None:
+        book = read_text("names names a\nnames a -> names\nnames b\n")
+        self.assertEqual(book, Book(("names", "a", "b"), (Rule((Role("names"), Role("a")), Role("names")),)))
+
+    def test_the_engine_judges_rules(self) -> None:
+        self.assertEqual(len(read_text("names a b\na -> a\na -> b\na -> b\nb -> a\n").rules), 4)
+
+    def test_limits_are_reached(self) -> None:
+        names = " ".join(f"n{number}" for number in range(64))
+        book = read_text(f"names {names}\n" + ("n63 " * 8 + "-> inv n0\n") * 256)
+        data = file_format.encode(book)
+        self.assertEqual((len(book.names), len(book.rules), len(data)), (64, 256, 2568))
+        self.assertEqual(file_format.decode(data).renamed(book.names), book)
+
+    def test_random_books(self) -> None:
+        for book in random_books(150, seed=1):
+            self.assertEqual(read_text(text_form.write(book)), book)
+
+    def test_long_lists_of_names_are_wrapped(self) -> None:
+        book = Book(tuple(f"is-a-part-of-{number}" for number in range(63)) + ("x" * 100,), ())
+        lines = text_form.write(book).splitlines()
+        self.assertEqual(read_text("\n".join(lines)), book)
+        self.assertLess(max(map(len, lines[:-1])), 80)
+
+
+N65 = " ".join(f"n{number}" for number in range(65))
+
+# Text, line, column, message.
+WRONG_TEXTS = [
+    ("", 1, 1, "no line of names: names NAME ..."),
+    ("# only a comment\n\n", 1, 1, "no line of names: names NAME ..."),
+    ("\n  a -> a\n", 2, 3, "no line of names: names NAME ..."),
+    ("names\n", 1, 1, "no name after 'names'"),
+    ("names a\nnames # none\n", 2, 1, "no name after 'names'"),
+    ("names a b a\n", 1, 11, "name 'a' is repeated"),
+    ("names a b\nnames c a\n", 2, 9, "name 'a' is repeated"),
+    ("names a inv\n", 1, 9, "'inv' is no name: 'inv' is reserved"),
+    ("names a 3b\n", 1, 9, "'3b' is no name: a name starts with a letter or '_'"),
+    ("names a -b\n", 1, 9, "'-b' is no name: a name starts with a letter or '_'"),
+    ("names a b/c\n", 1, 9, "'b/c' is no name: '/' cannot stand in a name"),
+    ("names a, b\n", 1, 7, "'a,' is no name: ',' cannot stand in a name"),
+    ("names a größe\n", 1, 9, "'größe' is no name: 'ö' cannot stand in a name"),
+    ("names a\x00b\n", 1, 7, "'a\\x00b' is no name: '\\x00' cannot stand in a name"),
+    (f"names {N65}\n", 1, 6 + len(N65) - 2, "more than 64 names"),
+    ("names a b\na b\n", 2, 1, "no '->' in this rule"),
+    ("names a b\n\n  a b = a\n", 3, 3, "no '->' in this rule"),
+    ("names a b\n -> a\n", 2, 2, "no role before '->'"),
+    ("names a b\na b -> # a\n", 2, 5, "no role after '->'"),
+    ("names a b\na -> a b\n", 2, 8, "more than one role after '->'"),
+    ("names a b\na -> a inv b\n", 2, 8, "more than one role after '->'"),
+    ("names a b\na -> b -> a\n", 2, 8, "a second '->'"),
+    ("names a b\na a a a a a a a a -> b\n", 2, 17, "more than 8 roles before '->'"),
+    ("names a b\na a a a a a a a inv a -> b\n", 2, 17, "more than 8 roles before '->'"),
+    ("names a b\na c -> b\n", 2, 3, "unknown name 'c'"),
+    ("names a b\na b -> inv c\n", 2, 12, "unknown name 'c'"),
+    ("names a b\nnames -> a\n", 2, 1, "unknown name 'names'"),
+    ("names a b\na inv -> b\n", 2, 3, "no name after 'inv'"),
+    ("names a b\ninv inv a -> b\n", 2, 1, "no name after 'inv'"),
+    ("names a b\na -> inv\n", 2, 6, "no name after 'inv'"),
+    ("names a b\na (b) -> b\n", 2, 3, "'(b)' is no name: '(' cannot stand in a name"),
+    ("names a b\na => b -> b\n", 2, 3, "'=>' is no name: '=' cannot stand in a name"),
+    ("names a\n" + "a -> a\n" * 257, 258, 1, "more than 256 rules"),
+]
+
+
+class WrongTexts(InFolder):
+    def test_each_kind_with_its_place(self) -> None:
+        for text, line, column, message in WRONG_TEXTS:
+            with self.subTest(text[:40], message=message):
+                self.write("b.txt", text)
+                self.assertEqual(run("pack", "b.txt"), (1, "", f"b.txt:{line}:{column}: {message}\n"))
+                self.assertFalse(Path("book.rlb").exists())
+
+    def test_every_wrong_line_is_told(self) -> None:
+        self.write("b.txt", "names a\na\na -> a\nb -> a\n")
+        told = "b.txt:2:1: no '->' in this rule\nb.txt:4:1: unknown name 'b'\n"
+        self.assertEqual(run("to-owl", "b.txt"), (1, "", told))
+
+    def test_wrong_names_come_alone(self) -> None:
+        self.write("b.txt", "names a b/c 3\nb -> a\n")
+        told = run("pack", "b.txt").errors.splitlines()
+        self.assertEqual([line.split(" ")[0] for line in told], ["b.txt:1:9:", "b.txt:1:13:"])
+
+    def test_not_utf_8(self) -> None:
+        Path("b.txt").write_bytes("names a\nö ".encode() + b"\xff -> a\n")
+        self.assertEqual(run("pack", "b.txt"), (1, "", "b.txt:2:3: this is not UTF-8 text\n"))
+
+    def test_no_such_file(self) -> None:
+        for command in ("pack", "unpack", "from-owl", "to-owl"):
+            self.assertEqual(run(command, "none"), (1, "", "none: No such file or directory\n"))
+
+
+# Bytes that causes 1 to 6 refuse, with the cause and its value.
+HEADER = b"RLB\1\0"
+DAMAGED = [
+    (b"", 1, 0),
+    (b"RLB\1\0\1\0", 1, 0),
+    (HALL_BYTES + bytes(2549), 1, 0),
+    (b"RLC\1\0\1\0\0", 2, 0),
+    (b"RLB\2\0\1\0\0", 3, 0),
+    (b"RLB\1\1\1\0\0", 3, 0),
+    (HEADER + b"\0\0\0", 4, 0),
+    (HEADER + b"\x41\0\0", 4, 0),
+    (HEADER + b"\1\1\1", 4, 0),
+    (HEADER + b"\1\1\0", 5, 0),
+    (HEADER + b"\1\1\0\0", 5, 0),
+    (HEADER + b"\1\1\0\0\0", 5, 0),
+    (HEADER + b"\1\1\0\0\x09" + bytes(9), 5, 0),
+    (HEADER + b"\1\2\0\0\1\1\0\2\1", 5, 1),
+    (HEADER + b"\1\1\0\0\1\1\0", 5, 1),
+    (HEADER + b"\1\0\0\0", 5, 0),
+    (HEADER + b"\1\1\0\2\1\0", 6, 0),
+    (HEADER + b"\1\2\0\0\1\1\0\1\2", 6, 1),
+]
+
+
+class Bytes(InFolder):
+    def test_damaged_bytes(self) -> None:
+        for data, cause, value in DAMAGED:
+            with self.subTest(data[:20].hex()):
+                Path("book.rlb").write_bytes(data)
+                told = run("unpack", "book.rlb")
+                self.assertEqual((told.status, told.output), (1, ""))
+                self.assertIn(f"book.rlb: no well-formed book, cause {cause} with {value}: {WORDS[cause]}", told.errors)
+
+    def test_well_formed_bytes_come_back(self) -> None:
+        rng = random.Random(2)
+        for _ in range(150):
+            names, rules = rng.randint(1, 64), rng.choice([0, 1, 2, 9, 256])
+            data = HEADER + bytes([names]) + rules.to_bytes(2, "little")
+            for _ in range(rules):
+                left = bytes(rng.randrange(2 * names) for _ in range(rng.randint(1, 8)))
+                data += bytes([rng.randrange(2 * names), len(left)]) + left
+            self.assertEqual(file_format.encode(read_text(text_form.write(file_format.decode(data)))), data)
+
+    def test_books_come_back(self) -> None:
+        for book in random_books(150, seed=3):
+            self.assertEqual(file_format.decode(file_format.encode(book)).renamed(book.names), book)
+
+    @needs_engine
+    def test_the_engine_gives_the_same_causes(self) -> None:
+        rng = random.Random(4)
+        samples = [data for data, _, _ in DAMAGED]
+        for book in random_books(60, seed=5):
+            data = bytearray(file_format.encode(book))
+            for _ in range(rng.randint(0, 2)):
+                data[rng.randrange(len(data))] = rng.choice([0, 1, 2, 8, 9, 64, 255])
+            samples.append(bytes(data[: rng.choice([len(data), rng.randint(0, len(data))])]))
+        for data in samples:
+            try:
+                file_format.decode(data)
+                mine = None
+            except file_format.Malformed as malformed:
+                mine = malformed.refusal
+            said = engine.ask(ENGINE, data, []).refusal
+            self.assertEqual(said if said and said.cause <= 6 else None, mine, data.hex())
+
+
+# As an ontology editor saves it.
+EDITOR = """\
+Prefix(:=<http://www.example.org/hall#>)
+Prefix(owl:=<http://www.w3.org/2002/07/owl#>)
+Prefix(rdf:=<http://www.w3.org/1999/02/22-rdf-syntax-ns#>)
+Prefix(xml:=<http://www.w3.org/XML/1998/namespace>)
+Prefix(xsd:=<http://www.w3.org/2001/XMLSchema#>)
+Prefix(rdfs:=<http://www.w3.org/2000/01/rdf-schema#>)
+Prefix(skos:=<http://www.w3.org/2004/02/skos/core#>)
+
+
+Ontology(<http://www.example.org/hall>
+<http://www.example.org/hall/1.0.0>
+Annotation(rdfs:comment "Links in a hall, e.g. \\"due\\" # (not a comment"@en)
+Annotation(owl:versionInfo "1"^^xsd:string)
+
+Declaration(ObjectProperty(:part))
+Declaration(ObjectProperty(:sits))
+Declaration(ObjectProperty(<http://www.example.org/hall#let>))
+Declaration(Annotation(rdfs:comment "owed") ObjectProperty(:due))
+Declaration(ObjectProperty(:near))
+Declaration(AnnotationProperty(skos:note))
+
+############################
+#   Object Properties
+############################
+
+# Object Property: :part (part of)
+
+AnnotationAssertion(rdfs:label :part "part of"@en)
+TransitiveObjectProperty(Annotation(rdfs:comment "a part of a part (is a part)") :part)
+
+# Object Property: :near (:near)
+
+AnnotationAssertion(Annotation(rdfs:comment "said twice") rdfs:comment :near "near
+by")
+SymmetricObjectProperty(:near)
+SubObjectPropertyOf(Annotation(skos:note Annotation(rdfs:label "x") "y") <http://www.example.org/hall#part> :near)
+SubObjectPropertyOf(ObjectInverseOf(:near) ObjectInverseOf(:due))
+
+
+SubObjectPropertyOf(ObjectPropertyChain(:part :sits) :sits)
+SubObjectPropertyOf(ObjectPropertyChain(:sits ObjectInverseOf( :let )) :due)
+)
+"""
+
+EDITOR_TEXT = """\
+names part sits let due near
+
+part part -> part
+inv near -> near
+part -> near
+inv near -> inv due
+part sits -> sits
+sits inv let -> due
+"""
+
+DOCUMENT = """\
+Prefix(:=<http://x.org/a#>)
+Prefix(b:=<http://x.org/b/>)
+Ontology(
+Declaration(ObjectProperty(:p))
+{}
+)
+"""
+
+# An axiom that stands in line 5, and its rules.
+TRANSLATED = [
+    ("SubObjectPropertyOf( :p :q )", ["p -> q"]),
+    ("SubObjectPropertyOf(ObjectPropertyChain(:p b:q ObjectInverseOf(:p)) :r)", ["p q inv p -> r"]),
+    ("TransitiveObjectProperty(ObjectInverseOf(:p))", ["inv p inv p -> inv p"]),
+    ("SymmetricObjectProperty(ObjectInverseOf(:p))", ["p -> inv p"]),
+    ("SubObjectPropertyOf(:p :p)", ["p -> p"]),
+    ("SubObjectPropertyOf(:p <urn:x:q>)", ["p -> q"]),
+    ("SubObjectPropertyOf(:p <http://x.org/a#q:r>)", ["p -> q:r"]),
+    ("SubObjectPropertyOf(:p rdfs:q)", ["p -> q"]),
+    ("InverseObjectProperties(:p :q)", ["p -> inv q", "inv q -> p"]),
+    ("InverseObjectProperties(:p :p)", ["p -> inv p"]),
+    ("InverseObjectProperties(:p ObjectInverseOf(:p))", []),
+    ("EquivalentObjectProperties(:p :q)", ["p -> q", "q -> p"]),
+    ("EquivalentObjectProperties(:p ObjectInverseOf(:q) :r)", ["p -> inv q", "inv q -> r", "r -> p"]),
+    ("EquivalentObjectProperties(:p ObjectInverseOf(:p))", ["p -> inv p"]),
+    ("EquivalentObjectProperties(:p :q ObjectInverseOf(:p) ObjectInverseOf(:q))", ["p -> q", "q -> inv p"]),
+]
+
+# Axioms that a book cannot hold, their column in line 5, and what is said of them.
+UNHELD = [
+    ("DisjointObjectProperties(:p :q)", 1, "DisjointObjectProperties"),
+    ("FunctionalObjectProperty(:p)", 1, "FunctionalObjectProperty"),
+    ("ReflexiveObjectProperty(:p)", 1, "ReflexiveObjectProperty"),
+    ("ObjectPropertyDomain(:p :C)", 1, "ObjectPropertyDomain"),
+    ("SubClassOf(:C ObjectSomeValuesFrom(:p :D))", 1, "SubClassOf"),
+    ("Import(<http://x.org/c>)", 1, "Import"),
+    ("ObjectPropertyAssertion(:p :a _:b)", 1, "ObjectPropertyAssertion"),
+    ("Declaration(Class(:C))", 1, "Declaration of a Class"),
+    ("Declaration(DataProperty(:d))", 1, "Declaration of a DataProperty"),
+    ("Declaration(ObjectProperty(owl:topObjectProperty))", 28, "owl:topObjectProperty"),
+    ("SubObjectPropertyOf(:q owl:topObjectProperty)", 24, "owl:topObjectProperty"),
+    ("SymmetricObjectProperty(ObjectInverseOf(owl:bottomObjectProperty))", 41, "owl:bottomObjectProperty"),
+    ("SubObjectPropertyOf(:p <http://www.w3.org/2002/07/owl#topObjectProperty>)", 24, "owl:topObjectProperty"),
+    (f"SubObjectPropertyOf(ObjectPropertyChain({':q ' * 9}) :p)", 21, "ObjectPropertyChain of 9 roles, over 8"),
+]
+
+TOO_FEW = "holds 1 where 2 or more should stand"
+NO_IRI = "stands where an IRI should be"
+
+# Axioms that are wrong in themselves, with their column in line 5: --skip does not pass over them.
+WRONG_AXIOMS = [
+    ("TransitiveObjectPropertys(:p)", 1, "'TransitiveObjectPropertys' is no axiom of OWL"),
+    ("SubObjectPropertyOf(:p)", 1, "SubObjectPropertyOf( .. ) holds 1 where 2 should stand"),
+    ("SubObjectPropertyOf(ObjectPropertyChain(:p) :p)", 21, f"ObjectPropertyChain( .. ) {TOO_FEW}"),
+    ("EquivalentObjectProperties(:p)", 1, f"EquivalentObjectProperties( .. ) {TOO_FEW}"),
+    ("TransitiveObjectProperty(p)", 26, f"'p' {NO_IRI}"),
+    ('TransitiveObjectProperty("a:b")', 26, f"'\"a:b\"' {NO_IRI}"),
+    ("TransitiveObjectProperty(c:p)", 26, "prefix 'c:' is not declared"),
+    ("SubObjectPropertyOf(:p ObjectPropertyChain(:p :p))", 24, f"'ObjectPropertyChain' {NO_IRI}"),
+    ("SymmetricObjectProperty(ObjectInverseOf(ObjectInverseOf(:p)))", 41, f"'ObjectInverseOf' {NO_IRI}"),
+    ("Declaration(Thing(:p))", 13, "'Thing' cannot be declared"),
+    (":p", 1, "':p' stands where an axiom should be"),
+    ("(:p)", 1, "no word before '('"),
+    ('AnnotationAssertion(rdfs:label :p "open)', 35, "'\"' without a whole string"),
+    ("TransitiveObjectProperty(<http://x y>)", 26, "'<' without a whole IRI"),
+    ("SubObjectPropertyOf(:p b:p)", 24, "<http://x.org/a#p> and <http://x.org/b/p> give the same name"),
+    ("SubObjectPropertyOf(:p :inv)", 24, "<http://x.org/a#inv> gives no name: 'inv' is reserved"),
+    ("SubObjectPropertyOf(:p b:0001)", 24, "<http://x.org/b/0001> gives no name: a name starts with a letter or '_'"),
+    ("SubObjectPropertyOf(:p :a%20b)", 24, "<http://x.org/a#a%20b> gives no name: '%' cannot stand in a name"),
+    ("SubObjectPropertyOf(:p b:)", 24, "<http://x.org/b/> gives no name: nothing stands after its last '#' or '/'"),
+]
+
+
+class Owl(InFolder):
+    def test_editor_document(self) -> None:
+        self.write("hall.ofn", EDITOR)
+        self.assertEqual(run("from-owl", "hall.ofn"), (0, EDITOR_TEXT, ""))
+
+    def test_hall_book(self) -> None:
+        self.write("hall.txt", HALL_TEXT)
+        self.assertEqual(run("to-owl", "hall.txt", "-o", "hall.ofn"), (0, "", ""))
+        text = Path("hall.ofn").read_text()
+        self.assertIn("\nTransitiveObjectProperty(:part)\n", text)
+        self.assertIn("\nSubObjectPropertyOf(ObjectPropertyChain(:sits :let) :due)\n", text)
+        self.assertEqual(run("from-owl", "hall.ofn"), (0, HALL_BARE, ""))
+
+    def test_own_forms(self) -> None:
+        for rule, axiom in [
+            ("a a -> a", "TransitiveObjectProperty(:a)"),
+            ("inv a inv a -> inv a", "TransitiveObjectProperty(ObjectInverseOf(:a))"),
+            ("inv a -> a", "SymmetricObjectProperty(:a)"),
+            ("a -> inv a", "SymmetricObjectProperty(ObjectInverseOf(:a))"),
+            ("inv a a -> a", "SubObjectPropertyOf(ObjectPropertyChain(ObjectInverseOf(:a) :a) :a)"),
+            ("a -> inv b.", "SubObjectPropertyOf(:a ObjectInverseOf(<http://example.org/book#b.>))"),
+        ]:
+            self.assertIn(f"\n\n{axiom}\n)\n", owl_writer.write(read_text(f"names a b.\n{rule}\n")))
+
+    def test_random_books(self) -> None:
+        for book in random_books(150, seed=6):
+            self.assertEqual(read_owl(owl_writer.write(book)), book)
+
+    def test_translated_axioms(self) -> None:
+        for axiom, rules in TRANSLATED:
+            with self.subTest(axiom):
+                self.assertEqual(list(map(str, read_owl(DOCUMENT.format(axiom)).rules)), rules)
+
+    def test_unheld_axioms_are_refused_or_skipped(self) -> None:
+        for axiom, column, what in UNHELD:
+            with self.subTest(axiom):
+                self.write("o.ofn", DOCUMENT.format(axiom))
+                told = f"o.ofn:5:{column}: a book cannot hold {what}"
+                hint = "o.ofn: not translated; --skip leaves such axioms out"
+                self.assertEqual(run("from-owl", "o.ofn"), (1, "", f"{told}\n{hint}\n"))
+                self.assertEqual(run("from-owl", "o.ofn", "--skip"), (0, "names p\n", f"{told} (skipped)\n"))
+
+    def test_wrong_axioms(self) -> None:
+        for axiom, column, message in WRONG_AXIOMS:
+            with self.subTest(axiom):
+                self.write("o.ofn", DOCUMENT.format(axiom))
+                for skip in ([], ["--skip"]):
+                    self.assertEqual(run("from-owl", "o.ofn", *skip), (1, "", f"o.ofn:5:{column}: {message}\n"))
+
+    def test_wrong_documents(self) -> None:
+        many = "Ontology(" + "".join(f"Declaration(ObjectProperty(<x#p{number}>))\n" for number in range(65)) + ")"
+        rules = "Ontology(\n" + "TransitiveObjectProperty(<x#p>)\n" * 257 + ")"
+        before = "only Prefix( .. ) may stand before Ontology( .. ), and nothing after it"
+        for text, place, message in [
+            ("", "1:1", "no Ontology( .. )"),
+            ("# nothing\n Prefix(:=<x>)", "2:2", "no Ontology( .. )"),
+            ("Ontology(\nSubObjectPropertyOf(<x#p> <x#q>)", "1:1", "Ontology( without ')'"),
+            ("Ontology(\nSubObjectPropertyOf(<x#p> <x#q>\n)", "1:1", "Ontology( without ')'"),
+            ("Ontology(<x>))", "1:14", "')' without '('"),
+            ("Ontology(<x>) Ontology(<y>)", "1:1", before),
+            ("Prefix(:=<x>) = Ontology()", "1:15", before),
+            ("Prefix(:=x)\nOntology()", "1:1", "a prefix is Prefix( NAME: = <IRI> )"),
+            ("Prefix(:=<x>)\nPrefix(:=<y>)\nOntology()", "2:8", "prefix ':' is repeated"),
+            ("Ontology(\n<x> y)", "2:5", f"'y' {NO_IRI}"),
+            ("Ontology(<x>)", "1:1", "no object property, and a book has at least one name"),
+            (many, "65:28", "more than 64 object properties"),
+            (rules, "258:1", "more than 256 rules"),
+        ]:
+            with self.subTest(text[:40]):
+                self.write("o.ofn", text)
+                self.assertEqual(run("from-owl", "o.ofn"), (1, "", f"o.ofn:{place}: {message}\n"))
+
+    def test_deep_nesting(self) -> None:
+        deep = "SubClassOf(:A " + "ObjectComplementOf(" * 5000 + ":A" + ")" * 5001
+        self.assertEqual(len(owl_reader.gather(Source("o", DOCUMENT.format(deep))).unheld), 1)
+
+
+FIVE = ["due: part part sits let", "due: sits part let", "inv due: inv let inv sits inv part", "due:", "due: due"]
+NO_LINK = "the chain has no link or more than 1,024"
+
+
+@needs_engine
+class Ask(InFolder):
+    def ask(self, *arguments: str, stdin: str = "") -> Run:
+        return run("ask", *arguments, stdin=stdin)
+
+    def test_hall_book(self) -> None:
+        self.write("hall.txt", HALL_TEXT)
+        answers = (
+            "due: part part sits let: yes\ndue: sits part let: no\ninv due: inv let inv sits inv part: yes\n"
+            f"due: (no link): refused 13: {NO_LINK}\ndue: due: yes\n"
+        )
+        self.assertEqual(self.ask("hall.txt", *FIVE), (1, answers, ""))
+        self.assertEqual(self.ask("hall.txt", stdin="# asked\n\n" + "\n".join(FIVE)), (1, answers, ""))
+        self.assertEqual(self.ask("hall.txt", FIVE[0], FIVE[1]).status, 0)
+
+    def test_options_stand_anywhere(self) -> None:
+        self.write("hall.txt", HALL_TEXT)
+        option = ["--engine", str(ENGINE)]
+        os.environ[engine.VARIABLE] = "/none"
+        for place in range(4):
+            words = ["hall.txt", "due: due", "due: let"]
+            words[place:place] = option
+            self.assertEqual(self.ask(*words), (0, "due: due: yes\ndue: let: no\n", ""))
+
+    def test_no_question_tells_of_the_book(self) -> None:
+        self.write("hall.txt", HALL_TEXT)
+        self.assertEqual(self.ask("hall.txt"), (0, "book: 16 states, 18 moves\n", ""))
+
+    def test_wrong_questions_do_not_stop_the_others(self) -> None:
+        self.write("hall.txt", HALL_TEXT)
+        for question, column, message in [
+            ("due: lit", 6, "unknown name 'lit'"),
+            ("due sits", 1, "no ':' after 'due': a question is ROLE: CHAIN"),
+            ("inv: sits", 1, "no name after 'inv'"),
+            (": sits", 1, "no role before ':'"),
+            ("inv due: inv", 10, "no name after 'inv'"),
+            ("inv inv due: sits", 5, "no ':' after 'inv': a question is ROLE: CHAIN"),
+            ("due: sits -> let", 11, "'->' is no name: '>' cannot stand in a name"),
+        ]:
+            told = f"{column}: {message}\n"
+            asked = self.ask("hall.txt", "due: sits let", question, "due: let")
+            self.assertEqual(asked, (1, "due: sits let: yes\ndue: let: no\n", f"question:2:{told}"))
+            self.assertEqual(self.ask("hall.txt", stdin=f"# asked\n\n{question}\n"), (1, "", f"stdin:3:{told}"))
+
+    def test_refused_books(self) -> None:
+        large = "".join(f"{left} " * 8 + f"-> {right}\n" for left, right in ("rs", "st", "tu", "uv"))
+        for rules, told in [
+            ("r -> r\n", f"8 0: {WORDS[8]}: rule 0, r -> r"),
+            ("s -> r\nr -> s\n", f"8 1: {WORDS[8]}: rule 1, r -> s"),
+            ("inv r -> r\nr -> inv r\n", f"7 1: {WORDS[7]}: rule 1, r -> inv r"),
+            (large, f"9 0: {WORDS[9]}"),
+        ]:
+            self.write("b.txt", f"names r s t u v\n{rules}")
+            self.assertEqual(self.ask("b.txt", "r: s"), (1, f"book refused {told}\n", ""))
+
+    def test_long_chains(self) -> None:
+        self.write("b.txt", "names p\np p -> p\n")
+        refused = f"refused 13: {NO_LINK}"
+        for links, answer in [(300, "yes"), (1024, "yes"), (1025, refused), (65535, refused)]:
+            question = "p:" + " p" * links
+            told = self.ask("b.txt", stdin=f"{question}\np: p\n").output
+            self.assertEqual(told, f"{question}: {answer}\np: p: yes\n")
+        told = self.ask("b.txt", stdin="p:" + " p" * 65536)
+        self.assertEqual(told, (1, "", "stdin:1:131074: more than 65,535 links\n"))
+
+    def test_names_with_colons(self) -> None:
+        self.write("b.txt", "names a:b a:\na: -> a:b\n")
+        self.assertEqual(self.ask("b.txt", "a:b: a:", "a:: a:b"), (0, "a:b: a:: yes\na:: a:b: no\n", ""))
+
+    def test_folder(self) -> None:
+        self.write("hall/book.txt", HALL_TEXT)
+        self.assertEqual(self.ask("hall", "due: sits let"), (1, "", "hall/book.rlb: No such file or directory\n"))
+        Path("hall/book.rlb").write_bytes(HALL_BYTES)
+        self.assertEqual(self.ask("hall", "due: sits let"), (0, "due: sits let: yes\n", ""))
+        Path("hall/book.txt").unlink()
+        self.assertEqual(self.ask("hall", "r3: r1 r2"), (0, "r3: r1 r2: yes\n", ""))
+
+    def test_folder_with_another_text(self) -> None:
+        Path("hall").mkdir()
+        Path("hall/book.rlb").write_bytes(HALL_BYTES)
+        for text in ("names part sits let due\n", "names part/sits\n"):
+            self.write("hall/book.txt", text)
+            told = self.ask("hall", "r3: r1 r2")
+            self.assertEqual((told.status, told.output), (0, "r3: r1 r2: yes\n"))
+            self.assertIn("hall/book.txt: does not pack to book.rlb", told.errors)
+
+    def test_folder_with_damaged_bytes(self) -> None:
+        for data, cause, value in DAMAGED:
+            Path("book.rlb").write_bytes(data)
+            told = self.ask(".", "r0: r0")
+            self.assertEqual((told.status, told.errors), (1, ""))
+            self.assertTrue(told.output.startswith(f"book refused {cause} {value}: {WORDS[cause]}"), told.output)
+
+    def test_axioms_mean_their_rules(self) -> None:
+        both = "SymmetricObjectProperty(:p)\nTransitiveObjectProperty(:q)\n"
+        book = read_owl(DOCUMENT.format(both + "SubObjectPropertyOf(:p ObjectInverseOf(:q))"))
+        self.write("b.txt", text_form.write(book))
+        told = self.ask("b.txt", "p: inv p", "q: q q q", "q: p inv p q", "p: q")
+        self.assertEqual(told, (0, "p: inv p: yes\nq: q q q: yes\nq: p inv p q: yes\np: q: no\n", ""))
+
+    def test_equivalences_have_no_order(self) -> None:
+        for axiom in ("InverseObjectProperties(:p :q)", "EquivalentObjectProperties(:p :q)"):
+            book = read_owl(DOCUMENT.format(axiom))
+            self.assertEqual(engine.ask(ENGINE, file_format.encode(book), []).refusal, Refusal(8, 1))
+
+
+@needs_engine
+class Page(InFolder):
+    """docs/TEXT-FORM.md shows what is really written."""
+
+    def setUp(self) -> None:
+        super().setUp()
+        page = (TOOLS.parent / "docs" / "TEXT-FORM.md").read_text(encoding="utf-8")
+        indented = re.findall(r"(?:^    .*\n|^\n(?=    ))+", page, re.M)
+        self.blocks = [textwrap.dedent(block.lstrip("\n")) for block in indented]
+        self.write("hall.txt", self.blocks[0])
+        self.write("pair.txt", "names part whole\npart -> inv whole\ninv whole -> part\n")
+        declared = "Declaration(Class(:Hall))\nDeclaration(ObjectProperty(:part))\n"
+        axioms = "TransitiveObjectProperty(:part)\nSymmetricObjectProperty(:near)\nFunctionalObjectProperty(:near)\n"
+        self.write("halls.ofn", f"Prefix(:=<http://x.org/#>)\nOntology(<http://x.org/>\n{declared}{axioms})\n")
+
+    def test_commands(self) -> None:
+        tried = 0
+        for block in self.blocks[1:]:
+            for example in re.split(r"^\$ tools/book ", block, flags=re.M)[1:]:
+                command, _, shown = example.partition("\n")
+                told = run(*shlex.split(command))
+                self.assertEqual(told.errors + told.output, shown, command)
+                tried += 1
+        self.assertEqual(tried, 7)
+
+
+class EngineRun(InFolder):
+    def test_no_engine(self) -> None:
+        self.write("hall.txt", HALL_TEXT)
+        told = run("ask", "hall.txt", "due: due", "--engine", "/none/engine")
+        self.assertEqual((told.status, told.output), (1, ""))
+        self.assertIn("/none/engine: no engine here; build it with `rt check engine`", told.errors)
+
+    def test_environment_names_it(self) -> None:
+        with mock.patch.dict(os.environ, {engine.VARIABLE: "/none/other"}):
+            self.assertRaisesRegex(Fault, "/none/other: no engine here", engine.find, None)
+
+    def test_other_output_is_no_answer(self) -> None:
+        for lines in (
+            [],
+            ["hello"],
+            ["book 2"],
+            ["book 2 1"],
+            ["book 2 1", "0 maybe"],
+            ["book 2 1", "1 yes"],
+            ["book 2 1", "0 cut"],
+            ["book 2 1", "0 yes", "1 yes"],
+            ["book refused 15 0"],
+            ["book refused 8 0", "0 yes"],
+        ):
+            self.assertRaisesRegex(Fault, "not an engine's", engine.read_transcript, ENGINE, lines, 1)
+
+
+class Script(unittest.TestCase):
+    def test_help(self) -> None:
+        told = subprocess.run([TOOLS / "book", "--help"], capture_output=True, text=True, check=True).stdout
+        for words in ("pack", "unpack", "ask", "from-owl", "to-owl", "examples:"):
+            self.assertIn(words, told)
+
+    def test_wrong_commands(self) -> None:
+        for words in ([], ["fold"], ["pack"], ["pack", "a", "b"], ["ask", "a", "--fast"], ["to-owl", "a", "--skip"]):
+            self.assertEqual(self.status(words), 2, words)
+
+    def status(self, words: list[str]) -> object:
+        with self.assertRaises(SystemExit) as stopped:
+            run(*words)
+        return stopped.exception.code
+
+    def test_generated_names_are_names(self) -> None:
+        self.assertFalse(any(map(trouble, generated(64))))
+
+
+if __name__ == "__main__":
+    if not ENGINE.is_file():
+        print(NO_ENGINE, file=sys.stderr)
+    unittest.main()
