@@ -3,18 +3,13 @@ ghost use mathlib.Core.List.{_∷_};
 ghost use mathlib.Core.Path.{_≡_};
 ghost use Prim.Native.Nat.{_≤_};
 ghost use Rattle.format.specs.Format.{named};
-ghost use Rattle.answerer.specs.Check.{passes};
 ghost use Rattle.queries.specs.Query.{transitions-in, heads-fit, transitions-fit, tables-fit, chain-fits};
-
-// What a check of a question says.
-pub(crate) enum Check {
-    Passed,
-    Failed,
-}
+ghost use Rattle.refusals.specs.Check.{check};
+use refusals::Check;
 
 // Cause 12: the tables.
 pub(crate) fn tables_fit(heads: &[u16], moves: &[u16]) -> Check
-    ensures { λ r. ⌜ passes r ≡ tables-fit (now (heads .entry)) (now (moves .entry)) ⌝ }
+    ensures { λ r. ⌜ r ≡ check (tables-fit (now (heads .entry)) (now (moves .entry))) ⌝ }
 {
     if heads.len() < 1 {
         return Check::Failed;
@@ -73,7 +68,7 @@ fn transitions_fit(moves: &[u16]) -> bool
 
 // Cause 13: 1 to 1,024 links.
 pub(crate) fn chain_fits(chain: &[u8]) -> Check
-    ensures { λ r. ⌜ passes r ≡ chain-fits (now (chain .entry)) ⌝ }
+    ensures { λ r. ⌜ r ≡ check (chain-fits (now (chain .entry))) ⌝ }
 {
     if chain.len() < 1 {
         return Check::Failed;
@@ -87,7 +82,7 @@ pub(crate) fn chain_fits(chain: &[u8]) -> Check
 // Cause 14: the role and each link of the chain have a name below `names`.
 pub(crate) fn roles_fit(names: usize, role: u8, chain: &[u8]) -> Check
     requires { ⌜ names ≤ 64 ⌝ }
-    ensures { λ r. ⌜ passes r ≡ named names (role ∷ now (chain .entry)) ⌝ }
+    ensures { λ r. ⌜ r ≡ check (named names (role ∷ now (chain .entry))) ⌝ }
 {
     if 2 * names <= role as usize {
         return Check::Failed;

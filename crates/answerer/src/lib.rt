@@ -18,13 +18,13 @@ mod states;
 pub use answer::Answer;
 pub use answer::QueryRefusal;
 pub use answer::cause;
-use checks::Check;
 use checks::chain_fits;
 use checks::roles_fit;
 use checks::tables_fit;
 use index::fill_index;
-use reader::name;
 use reading::run;
+use refusals::Check;
+use role_bytes::name;
 
 // Whether tables accept a chain for a role: the first refusal of causes 12, 13 and 14; else yes or no.
 pub fn ask(heads: &[u16], moves: &[u16], role: u8, chain: &[u8]) -> Answer

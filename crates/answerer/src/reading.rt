@@ -10,8 +10,8 @@ ghost use Rattle.simulation.specs.Index.{Indexed, Spread};
 ghost use Rattle.simulation.specs.Reading.{Leads, Closed, Closing, Stepped};
 use crate::states::contains;
 use crate::states::put;
-use reader::inverse;
-use reader::is_inverse;
+use role_bytes::inverse;
+use role_bytes::is_inverse;
 
 // Whether a path from the state `head` to the next one spells the chain, or its inverse if the role is the inverse of a name.
 pub(crate) fn run(

@@ -14,11 +14,11 @@ use Rattle.causes.specs.Ordered as Ordered
 use Rattle.causes.specs.GatherLaws.{ordered-read}
 use Rattle.causes.specs.BuiltLaws.{built-refused}
 use Rattle.layout.specs.Indexed.{Indexed, level-in}
-use Rattle.reader.specs.declared.refusal.Refusal.{Refusal}
-use Rattle.reader.specs.declared.verdict.Header.{Header}
-use Rattle.reader.specs.declared.verdict.Verdict.the-variants.{WellFormed, Refused}
-use Rattle.reader.specs.Refusal.{cause-of, value-of}
-use Rattle.reader.specs.Verdict.{header-of, says}
+use Rattle.refusals.specs.declared.refusal.Refusal.{Refusal}
+use Rattle.decoder.specs.declared.verdict.Header.{Header}
+use Rattle.decoder.specs.declared.verdict.Verdict.the-variants.{WellFormed, Refused}
+use Rattle.refusals.specs.Refusal.{cause-of, value-of}
+use Rattle.decoder.specs.Verdict.{header-of, says}
 use Rattle.orderer.specs.declared.Ordering.{Ordering}
 use Rattle.orderer.specs.Gather.{Levels}
 use Rattle.orderer.specs.Gather as Gather

@@ -9,7 +9,7 @@ use Rattle.format.specs.Result.Result.{refused, accepted}
 use Rattle.causes.specs.Ordered
 use Rattle.layout.specs.Indexed.{Indexed, level-in}
 use Rattle.causes.specs.Built.{states-of, count-of, heads-of, moves-of, built, written}
-use Rattle.reader.specs.Refusal.{cause-of, value-of}
+use Rattle.refusals.specs.Refusal.{cause-of, value-of}
 use Rattle.builder.specs.declared.Counts.{Counts}
 use Rattle.builder.specs.declared.Outcome.{Outcome}
 use Rattle.builder.specs.declared.Outcome.the-variants.{Built, Refused}

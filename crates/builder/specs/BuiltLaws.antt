@@ -17,8 +17,8 @@ use Rattle.causes.specs.BuiltLaws.{built-accepted}
 use Rattle.layout.specs.Indexed.{Indexed, level-in}
 use Rattle.layout.specs.Pieces.{length-numbers, length-roots}
 use Rattle.layout.specs.Sizes.{few-transitions}
-use Rattle.reader.specs.declared.refusal.Refusal.{Refusal}
-use Rattle.reader.specs.Refusal.{cause-of, value-of}
+use Rattle.refusals.specs.declared.refusal.Refusal.{Refusal}
+use Rattle.refusals.specs.Refusal.{cause-of, value-of}
 use Rattle.builder.specs.declared.Counts.{Counts}
 use Rattle.builder.specs.declared.Outcome.the-variants.{Built, Refused}
 use Rattle.builder.specs.declared.lay.Place.{Place}

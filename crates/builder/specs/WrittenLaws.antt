@@ -13,8 +13,8 @@ use Rattle.format.specs.ResultLaws.{refused-accepted, accepted-injective}
 use Rattle.causes.specs.Built.{count-of, heads-of, moves-of, built, over}
 use Rattle.causes.specs.BuiltLaws.{Passed, built-passed}
 use Rattle.layout.specs.Pieces.{length-numbers, length-roots}
-use Rattle.reader.specs.declared.refusal.Refusal.{Refusal}
-use Rattle.reader.specs.Refusal.{cause-of, value-of}
+use Rattle.refusals.specs.declared.refusal.Refusal.{Refusal}
+use Rattle.refusals.specs.Refusal.{cause-of, value-of}
 use Rattle.builder.specs.declared.Counts.{Counts}
 use Rattle.builder.specs.declared.Outcome.the-variants.{Built, Refused}
 use Rattle.builder.specs.Built.{counts-of, says, Builds}

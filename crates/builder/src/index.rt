@@ -10,9 +10,9 @@ ghost use Rattle.format.specs.Place.{first-rules};
 ghost use Rattle.layout.specs.Indexed.{Indexed, place-in, next-in, first-in, level-in};
 ghost use Rattle.layout.specs.Filling.{Ruled, Located, Started, Linking};
 ghost use Rattle.orderer.specs.Gather.{Levels};
-use reader::Cursor;
-use reader::Step;
-use reader::name;
+use cursor::Cursor;
+use cursor::Step;
+use role_bytes::name;
 
 // Where rule k begins.
 pub(crate) fn place_of(index: &[u16], k: usize) -> usize

@@ -24,8 +24,8 @@ use crate::index::next_of;
 use crate::index::place_of;
 use orderer::Shape;
 use orderer::shape_of;
-use reader::inverse;
-use reader::name;
+use role_bytes::inverse;
+use role_bytes::name;
 
 // The next free state and the number of transitions so far. A state above 2,048 says that the tables are too large; nothing more is laid
 // then.

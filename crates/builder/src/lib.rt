@@ -12,11 +12,11 @@ ghost use Rattle.builder.specs.Built.{Prepared, Builds};
 mod index;
 mod lay;
 
+use decoder::Verdict;
 use index::fill;
 use lay::Place;
 use lay::roots;
-use reader::Refusal;
-use reader::Verdict;
+use refusals::Refusal;
 
 // How many names, states and transitions the tables have: their numbers are the first `names` heads and the first 3 `transitions` moves.
 pub struct Counts {

@@ -20,8 +20,8 @@ pub(crate) fn built(text: &[u8], book: &[u8], heads: &mut [u16], moves: &mut [u1
             label(b", transitions ", counts.transitions);
         }
         Outcome::Refused(refusal) => {
-            label(b": refused ", reader::cause(refusal));
-            label(b" ", reader::value(refusal));
+            label(b": refused ", refusals::cause(refusal));
+            label(b" ", refusals::value(refusal));
         }
     }
     io::write_all(1, b"\n");

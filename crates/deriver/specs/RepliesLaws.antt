@@ -12,8 +12,8 @@ use Rattle.queries.specs.Query.{Answered}
 use Rattle.answers.specs.Reply.{Replied}
 use Rattle.answers.specs.Reply.Replied.{turned-away, settled}
 use Rattle.answers.specs.ReplyLaws.{decided}
-use Rattle.reader.specs.declared.refusal.Refusal.{Refusal}
-use Rattle.reader.specs.Refusal.{cause-of, value-of}
+use Rattle.refusals.specs.declared.refusal.Refusal.{Refusal}
+use Rattle.refusals.specs.Refusal.{cause-of, value-of}
 use Rattle.answerer.specs.declared.answer.Answer.{Answer}
 use Rattle.answerer.specs.Answer.{says as answer-says}
 use Rattle.builder.specs.declared.Counts.{Counts}

@@ -6,7 +6,7 @@ ghost use Rattle.deriver.specs.Replies.{says, Replies};
 use answerer::Answer;
 use answerer::QueryRefusal;
 use builder::Outcome;
-use reader::Refusal;
+use refusals::Refusal;
 
 // What a question about a book is answered with.
 pub enum Reply {

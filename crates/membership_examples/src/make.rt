@@ -5,8 +5,8 @@ use crate::draw::coin;
 use crate::draw::draw;
 use crate::draw::draw_roles;
 use crate::slices::put;
-use reader::inverse;
-use reader::is_inverse;
+use role_bytes::inverse;
+use role_bytes::is_inverse;
 
 // Writes a book of 2 to 6 names and 1 to 8 rules, marks what it has, and answers where it ends.
 pub(crate) fn make_book(seed: &mut u64, book: &mut [u8], marks: &mut [u8]) -> usize {

@@ -1,6 +1,6 @@
 // The rules of a well-formed book, read from its bytes: the first stands at place 8.
 use crate::slices::wide;
-use reader::inverse;
+use role_bytes::inverse;
 
 // The left side of the rule at a place; none where no whole rule stands there.
 pub(crate) fn left_of(book: &[u8], at: usize) -> &[u8] {

@@ -69,7 +69,7 @@ fn build_and_ask(book: &[u8], seed: &mut u64, marks: &[u8], counts: &mut [u64]) 
     let mut moves = [0u16; 15360];
     match builder::build(book, &mut heads, &mut moves) {
         Outcome::Refused(refusal) => {
-            add(counts, REFUSED + reader::cause(refusal) % 12);
+            add(counts, REFUSED + refusals::cause(refusal) % 12);
             true
         }
         Outcome::Built(built) => {

@@ -14,8 +14,8 @@ use Rattle.format.specs.Result.{Result, map-result}
 use Rattle.format.specs.Result.Result.{refused, accepted}
 use Rattle.format.specs.Format.{read}
 use Rattle.causes.specs.Ordered.{ordered, Judged}
-use Rattle.reader.specs.declared.verdict.Header.{Header}
-use Rattle.reader.specs.Verdict.{header-of, says}
+use Rattle.decoder.specs.declared.verdict.Header.{Header}
+use Rattle.decoder.specs.Verdict.{header-of, says}
 use Rattle.orderer.specs.declared.Gathered.{Gathered}
 use Rattle.orderer.specs.declared.Gathered.the-variants.{Calm, Clash}
 use Rattle.orderer.specs.declared.Ordering.{Ordering}

@@ -17,12 +17,12 @@ use Rattle.format.specs.Place.{rule-at, whole-at, rule-place}
 use Rattle.format.specs.ReadLaws.{read-whole, read-rule, read-named, read-some}
 use Rattle.causes.specs.Ordered.{ordered}
 use Rattle.causes.specs.GatherLaws.{Gathering, gathering-start, gathering-next, gathering-clash, gathering-end, gathering-closed, ordered-from, ordered-read}
-use Rattle.reader.specs.declared.cursor.Cursor.{Cursor}
-use Rattle.reader.specs.declared.cursor.Entry.{Entry}
-use Rattle.reader.specs.declared.verdict.Header.{Header}
-use Rattle.reader.specs.Cursor.{entry-rule}
-use Rattle.reader.specs.CursorLaws.{AtRule, entry-part}
-use Rattle.reader.specs.Verdict.{header-of}
+use Rattle.cursor.specs.declared.Cursor.{Cursor}
+use Rattle.cursor.specs.declared.Entry.{Entry}
+use Rattle.decoder.specs.declared.verdict.Header.{Header}
+use Rattle.cursor.specs.Cursor.{entry-rule}
+use Rattle.cursor.specs.CursorLaws.{AtRule, entry-part}
+use Rattle.decoder.specs.Verdict.{header-of}
 use Rattle.orderer.specs.declared.Gathered.{Gathered}
 use Rattle.orderer.specs.declared.Gathered.the-variants.{Calm, Clash}
 use Rattle.orderer.specs.Gather.{gathered, Gathered-order}

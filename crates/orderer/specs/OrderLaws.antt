@@ -12,9 +12,9 @@ use Rattle.format.specs.ResultLaws.{refused-accepted}
 use Rattle.format.specs.ReadLaws.{read-names, read-few-names, named-name, named-member, rules-named}
 use Rattle.causes.specs.Ordered.{ordered}
 use Rattle.causes.specs.GatherLaws.{ordered-judged, ordered-read}
-use Rattle.reader.specs.declared.verdict.Header.{Header}
-use Rattle.reader.specs.declared.verdict.Verdict.{Verdict}
-use Rattle.reader.specs.Verdict.{header-of, says}
+use Rattle.decoder.specs.declared.verdict.Header.{Header}
+use Rattle.decoder.specs.declared.verdict.Verdict.{Verdict}
+use Rattle.decoder.specs.Verdict.{header-of, says}
 use Rattle.orderer.specs.Gather.{Gathered-order, Levels, Ordered}
 
 module _ (s : List ℕ) (v : Verdict) (e : says v ≡ map-result header-of (ordered s)) where

@@ -13,20 +13,20 @@ ghost use Rattle.format.specs.Result.Result.{accepted};
 ghost use Rattle.format.specs.Format.{named};
 ghost use Rattle.format.specs.Format.{read as read-of};
 ghost use Rattle.causes.specs.Ordered.{ordered};
-ghost use Rattle.reader.specs.Verdict.{header-of, says};
+ghost use Rattle.decoder.specs.Verdict.{header-of, says};
 ghost use Rattle.orderer.specs.Gather.{gathered, Ordered, Gathered-order};
 
 mod masks;
 mod shape;
 
+use cursor::Cursor;
+use cursor::Step;
+use decoder::Header;
+use decoder::Verdict;
 use masks::absorb;
 use masks::has;
 use masks::reached;
-use reader::Cursor;
-use reader::Header;
-use reader::Refusal;
-use reader::Step;
-use reader::Verdict;
+use refusals::Refusal;
 pub use shape::Row;
 pub use shape::Shape;
 pub use shape::shape_of;
@@ -110,7 +110,7 @@ fn add_rule(left: &[u8], right: u8, masks: &mut [u64]) -> Gathered
     let start = row.start;
     let end = start + row.size;
     let lower = reached(&left[start..end], masks);
-    let over = reader::name(right) as usize;
+    let over = role_bytes::name(right) as usize;
     if has(lower, over) {
         return Gathered::Clash;
     }

@@ -8,7 +8,7 @@ ghost use Rattle.roles.specs.Role.{Chain};
 ghost use Rattle.order.specs.Closure.{reaches, with-inner};
 ghost use Rattle.order.specs.Mask.{Holds};
 ghost use Rattle.order.specs.Mask.{has as has-of};
-use reader::name;
+use role_bytes::name;
 
 // Whether name y is in the set.
 pub(crate) fn has(mask: u64, y: usize) -> bool

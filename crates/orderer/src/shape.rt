@@ -2,7 +2,7 @@
 ghost use mathlib.Core.Bool.{true, false};
 ghost use mathlib.Core.Path.{_≡_};
 ghost use Rattle.orderer.specs.Shape.{Shaped};
-use reader::inverse;
+use role_bytes::inverse;
 
 pub enum Shape {
     // Form 4, R R to R.

@@ -6,28 +6,15 @@ ghost use Rattle.format.specs.Result.{map-result};
 ghost use Rattle.format.specs.Format.{decode as decode-of, read as read-of};
 ghost use Rattle.format.specs.Place.{rule-place, has-rule, left-part};
 ghost use Rattle.format.specs.Place.{left-side as left-side-of};
-ghost use Rattle.reader.specs.Verdict.{header-of, says};
+ghost use Rattle.decoder.specs.Verdict.{header-of, says};
 
-mod cursor;
-mod decode;
-mod refusal;
 mod repeats;
-mod role;
-mod verdict;
 
-pub use cursor::Cursor;
-pub use cursor::Entry;
-pub use cursor::Step;
-use decode::decode;
-pub use refusal::Refusal;
-pub use refusal::cause;
-pub use refusal::value;
+use cursor::Cursor;
+use cursor::Step;
+use decoder::Verdict;
+use decoder::decode;
 use repeats::distinct;
-pub use role::inverse;
-pub use role::is_inverse;
-pub use role::name;
-pub use verdict::Header;
-pub use verdict::Verdict;
 
 // Reads the whole book: causes 1 to 7.
 pub fn read(book: &[u8]) -> Verdict

@@ -11,16 +11,17 @@ ghost use Rattle.format.specs.Result.Result.{accepted};
 ghost use Rattle.format.specs.Format.{repeats};
 ghost use Rattle.format.specs.Format.{decode as decode-of, read as read-of};
 ghost use Rattle.format.specs.Place.{rule-place, whole-at, first-rules};
-ghost use Rattle.reader.specs.Verdict.{check, header-of, says};
-ghost use Rattle.reader.specs.Cursor.{entry-rule};
-use crate::cursor::Cursor;
-use crate::cursor::Entry;
-use crate::cursor::Step;
-use crate::refusal::Refusal;
-use crate::role::inverse;
-use crate::verdict::Check;
-use crate::verdict::Header;
-use crate::verdict::Verdict;
+ghost use Rattle.refusals.specs.Check.{check};
+ghost use Rattle.decoder.specs.Verdict.{header-of, says};
+ghost use Rattle.cursor.specs.Cursor.{entry-rule};
+use cursor::Cursor;
+use cursor::Entry;
+use cursor::Step;
+use decoder::Header;
+use decoder::Verdict;
+use refusals::Check;
+use refusals::Refusal;
+use role_bytes::inverse;
 
 // Cause 7, for a book that passes 1 to 6.
 pub(crate) fn distinct(book: &[u8], header: Header) -> Verdict

@@ -1,5 +1,5 @@
 // What the program writes.
-use reader::Verdict;
+use decoder::Verdict;
 
 pub(crate) fn line(text: &[u8]) {
     io::write_all(1, text);
@@ -20,8 +20,8 @@ pub(crate) fn verdict(text: &[u8], bytes: &[u8]) {
             label(b", rules ", header.rules);
         }
         Verdict::Refused(refusal) => {
-            label(b": refused ", reader::cause(refusal));
-            label(b" ", reader::value(refusal));
+            label(b": refused ", refusals::cause(refusal));
+            label(b" ", refusals::value(refusal));
         }
     }
     io::write_all(1, b"\n");

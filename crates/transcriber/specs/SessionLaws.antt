@@ -19,8 +19,8 @@ use Rattle.transcripts.specs.Transcript.Next.{nothing, part}
 use Rattle.transcripts.specs.Transcript.Transcript.{ended, cut}
 use Rattle.transcripts.specs.Transcript.Session.{turned-away, served}
 use Rattle.transcripts.specs.TranscriptLaws.{transcript-map}
-use Rattle.reader.specs.declared.refusal.Refusal.{Refusal}
-use Rattle.reader.specs.Refusal.{cause-of, value-of}
+use Rattle.refusals.specs.declared.refusal.Refusal.{Refusal}
+use Rattle.refusals.specs.Refusal.{cause-of, value-of}
 use Rattle.builder.specs.declared.Counts.{Counts}
 use Rattle.builder.specs.declared.Outcome.the-variants.{Built, Refused}
 use Rattle.builder.specs.Built.{Builds}

@@ -27,8 +27,8 @@ pub fn first_line(outcome: Outcome, out: &mut [u8; 64]) -> usize
         Outcome::Refused(refusal) => put_pair(
             out,
             b"book refused ",
-            reader::cause(refusal) as u64,
-            reader::value(refusal) as u64,
+            refusals::cause(refusal) as u64,
+            refusals::value(refusal) as u64,
         ),
     }
 }

@@ -4,8 +4,7 @@ use borrow.Author.Tests.{not-true, not-false}
 use Rattle.queries.specs.Query.Answered.{turned-away, yes as answered-yes, no as answered-no}
 use Rattle.simulation.specs.QueryLaws.{query-tables, query-chain, query-role, query-accepted}
 use Rattle.simulation.specs.TablesLaws.{tables}
-use Rattle.answerer.specs.declared.checks.Check.the-variants.{Passed, Failed}
-use Rattle.answerer.specs.Check.{check-said}
+use Rattle.refusals.specs.Check.{check-passed, check-failed}
 use Rattle.answerer.proofs.ask.Statement.{statement}
 use Rattle.answerer.proofs.ask.Tie as tie
 
@@ -19,7 +18,7 @@ enum-told-2 : tie.Need-enum-told-2
 enum-told-2 c = search needs
 
 returns : tie.Need-returns
-returns c = turned-away 12 0 (query-tables _ _ _ _ (check-said _ Failed _ (c .before .before .tables-fit .ensures) (c .enum-told2 .given .1)))
+returns c = turned-away 12 0 (query-tables _ _ _ _ (check-failed _ _ (c .before .before .tables-fit .ensures) (c .enum-told2 .given .1)))
 
 chain-fits-requires : tie.Need-chain-fits-requires
 chain-fits-requires c κs = search needs
@@ -31,10 +30,10 @@ enum-told-4 : tie.Need-enum-told-4
 enum-told-4 c = search needs
 
 returns-2 : tie.Need-returns-2
-returns-2 c = turned-away 13 0 (query-chain _ _ _ _ (check-said _ Passed _ (c .before .before .before .before .before .tables-fit .ensures) (c .before .before .before .enum-told .given .1)) (check-said _ Failed _ (c .before .before .chain-fits .ensures) (c .enum-told4 .given .1)))
+returns-2 c = turned-away 13 0 (query-chain _ _ _ _ (check-passed _ _ (c .before .before .before .before .before .tables-fit .ensures) (c .before .before .before .enum-told .given .1)) (check-failed _ _ (c .before .before .chain-fits .ensures) (c .enum-told4 .given .1)))
 
 roles-fit-requires : tie.Need-roles-fit-requires
-roles-fit-requires c κs = tables _ _ (check-said _ Passed _ (c .before .before .before .before .before .tables-fit .ensures) (c .before .before .before .enum-told .given .1)) .few-heads
+roles-fit-requires c κs = tables _ _ (check-passed _ _ (c .before .before .before .before .before .tables-fit .ensures) (c .before .before .before .enum-told .given .1)) .few-heads
 
 enum-told-5 : tie.Need-enum-told-5
 enum-told-5 c = search needs
@@ -43,16 +42,16 @@ enum-told-6 : tie.Need-enum-told-6
 enum-told-6 c = search needs
 
 returns-3 : tie.Need-returns-3
-returns-3 c = turned-away 14 0 (query-role _ _ _ _ (check-said _ Passed _ (c .before .before .before .before .before .before .before .before .tables-fit .ensures) (c .before .before .before .before .before .before .enum-told .given .1)) (check-said _ Passed _ (c .before .before .before .before .before .chain-fits .ensures) (c .before .before .before .enum-told3 .given .1)) (check-said _ Failed _ (c .before .before .roles-fit .ensures) (c .enum-told6 .given .1)))
+returns-3 c = turned-away 14 0 (query-role _ _ _ _ (check-passed _ _ (c .before .before .before .before .before .before .before .before .tables-fit .ensures) (c .before .before .before .before .before .before .enum-told .given .1)) (check-passed _ _ (c .before .before .before .before .before .chain-fits .ensures) (c .before .before .before .enum-told3 .given .1)) (check-failed _ _ (c .before .before .roles-fit .ensures) (c .enum-told6 .given .1)))
 
 accepts-requires : tie.Need-accepts-requires
-accepts-requires c κs = ((check-said _ Passed _ (c .before .before .before .before .before .before .before .before .tables-fit .ensures) (c .before .before .before .before .before .before .enum-told .given .1)), (check-said _ Passed _ (c .before .before .roles-fit .ensures) (c .enum-told5 .given .1)))
+accepts-requires c κs = ((check-passed _ _ (c .before .before .before .before .before .before .before .before .tables-fit .ensures) (c .before .before .before .before .before .before .enum-told .given .1)), (check-passed _ _ (c .before .before .roles-fit .ensures) (c .enum-told5 .given .1)))
 
 returns-4 : tie.Need-returns-4
-returns-4 c = answered-no (query-accepted _ _ _ _ (check-said _ Passed _ (c .before .before .before .before .before .before .before .before .before .before .tables-fit .ensures) (c .before .before .before .before .before .before .before .before .enum-told .given .1)) (check-said _ Passed _ (c .before .before .before .before .before .before .before .chain-fits .ensures) (c .before .before .before .before .before .enum-told3 .given .1)) (check-said _ Passed _ (c .before .before .before .before .roles-fit .ensures) (c .before .before .enum-told5 .given .1))) (c .before .accepts .ensures .fails (not-true _ (c .if1 .taken)))
+returns-4 c = answered-no (query-accepted _ _ _ _ (check-passed _ _ (c .before .before .before .before .before .before .before .before .before .before .tables-fit .ensures) (c .before .before .before .before .before .before .before .before .enum-told .given .1)) (check-passed _ _ (c .before .before .before .before .before .before .before .chain-fits .ensures) (c .before .before .before .before .before .enum-told3 .given .1)) (check-passed _ _ (c .before .before .before .before .roles-fit .ensures) (c .before .before .enum-told5 .given .1))) (c .before .accepts .ensures .fails (not-true _ (c .if1 .taken)))
 
 returns-5 : tie.Need-returns-5
-returns-5 c = answered-yes (query-accepted _ _ _ _ (check-said _ Passed _ (c .before .before .before .before .before .before .before .before .before .before .tables-fit .ensures) (c .before .before .before .before .before .before .before .before .enum-told .given .1)) (check-said _ Passed _ (c .before .before .before .before .before .before .before .chain-fits .ensures) (c .before .before .before .before .before .enum-told3 .given .1)) (check-said _ Passed _ (c .before .before .before .before .roles-fit .ensures) (c .before .before .enum-told5 .given .1))) (c .before .accepts .ensures .holds (not-false _ (c .if1 .left)))
+returns-5 c = answered-yes (query-accepted _ _ _ _ (check-passed _ _ (c .before .before .before .before .before .before .before .before .before .before .tables-fit .ensures) (c .before .before .before .before .before .before .before .before .enum-told .given .1)) (check-passed _ _ (c .before .before .before .before .before .before .before .chain-fits .ensures) (c .before .before .before .before .before .enum-told3 .given .1)) (check-passed _ _ (c .before .before .before .before .roles-fit .ensures) (c .before .before .enum-told5 .given .1))) (c .before .accepts .ensures .holds (not-false _ (c .if1 .left)))
 
 pub ask-spec : {M : Type 1} → statement M
 ask-spec =

@@ -6,7 +6,7 @@ use borrow.Author.Needs.{needs}
 use lib.ListN.{length}
 use Rattle.format.specs.Place.{rule-place}
 use Rattle.orderer.specs.GatherLaws.{handed-rule, Gathers, gathers-start, whole-rule, named-rule, gathers-next, gathers-clash, gathers-end}
-use Rattle.reader.specs.CursorLaws.{AtRule, at-rule, some-rule}
+use Rattle.cursor.specs.CursorLaws.{AtRule, at-rule, some-rule}
 use Rattle.orderer.proofs.gather.Statement.{statement}
 use Rattle.orderer.proofs.gather.Tie as tie
 

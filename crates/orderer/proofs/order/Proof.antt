@@ -5,7 +5,7 @@ use Rattle.causes.specs.GatherLaws.{ordered-refused}
 use Rattle.format.specs.Result.{map-result}
 use Rattle.order.specs.AbsorbLaws.{holds-none}
 use Rattle.orderer.specs.OrderLaws.{order-refused, order-passed}
-use Rattle.reader.specs.Verdict.{header-of, says}
+use Rattle.decoder.specs.Verdict.{header-of, says}
 use Rattle.orderer.proofs.order.Statement.{statement}
 use Rattle.orderer.proofs.order.Tie as tie
 

@@ -3,9 +3,9 @@ use mathlib.Core.Path.{sym, ap, _∙_}
 use native.Mathlib.Omega.{arith}
 use borrow.Author.Needs.{needs}
 use borrow.Author.Tests.{lt-ltb, le-ltb}
-use Rattle.reader.specs.CursorLaws.{at-rule, some-rule, entry-part}
-use Rattle.reader.specs.Verdict.{says}
-use Rattle.reader.specs.VerdictLaws.{has-rule-header, has-rule-refused}
+use Rattle.cursor.specs.CursorLaws.{at-rule, some-rule, entry-part}
+use Rattle.decoder.specs.Verdict.{says}
+use Rattle.decoder.specs.VerdictLaws.{has-rule-header, has-rule-refused}
 use Rattle.format.specs.DecodeLaws.{left-none, left-some, has-rule-whole}
 use Rattle.roles.specs.Rule.{Rule}
 use Rattle.reader.proofs.left_side.Statement.{statement}

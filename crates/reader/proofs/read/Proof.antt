@@ -1,8 +1,8 @@
 -- `read` meets its contract: `decode` settles causes 1 to 6 and `distinct` cause 7.
 use mathlib.Core.Path.{sym, ap, _∙_}
 use borrow.Author.Needs.{needs}
-use Rattle.reader.specs.Verdict.{says}
-use Rattle.reader.specs.VerdictLaws.{read-refused}
+use Rattle.decoder.specs.Verdict.{says}
+use Rattle.decoder.specs.VerdictLaws.{read-refused}
 use Rattle.reader.proofs.read.Statement.{statement}
 use Rattle.reader.proofs.read.Tie as tie
 

@@ -3,7 +3,7 @@ use mathlib.Core.Path.{ap, _∙_, _≡_}
 use Prim.Native.Nat.{_≤_, _-_}
 use native.Mathlib.Omega.{arith}
 use borrow.Author.Needs.{needs}
-use Rattle.reader.specs.CursorLaws.{step-rule, some-rule}
+use Rattle.cursor.specs.CursorLaws.{step-rule, some-rule}
 use Rattle.format.specs.DecodeLaws.{has-rule-whole}
 use Rattle.format.specs.FormatLaws.{place-next}
 use Rattle.format.specs.Place.{rule-place}

@@ -1,6 +1,6 @@
 -- `roles_fit` meets its contract. The invariant: the links passed are below twice the names.
 use mathlib.Core.List.{_∷_}
-use mathlib.Core.Path.{sym}
+use mathlib.Core.Path.{ap, sym}
 use Prim.Native.Nat.{ℕ, suc, _≤_, _<_, _*_, _-_}
 use native.Mathlib.Omega.{arith}
 use borrow.Author.Count.{below-more}
@@ -8,6 +8,7 @@ use borrow.Author.Needs.{needs}
 use lib.ListN.{length, getD}
 use Rattle.format.specs.NamedLaws.{named-not}
 use Rattle.simulation.specs.QueryLaws.{named-so}
+use Rattle.refusals.specs.Check.{check}
 use Rattle.answerer.proofs.checks.roles_fit.Statement.{statement}
 use Rattle.answerer.proofs.checks.roles_fit.Tie as tie
 
@@ -21,7 +22,7 @@ mul-if1 : tie.Need-mul-if1 Inv-loop μ-loop
 mul-if1 c = search needs
 
 returns : tie.Need-returns Inv-loop μ-loop
-returns c = sym (named-not _ (c .before .args .role ∷ c .before .args .chain .now) 0 (omega arith) (c .if1 .taken))
+returns c = ap check (sym (named-not _ (c .before .args .role ∷ c .before .args .chain .now) 0 (omega arith) (c .if1 .taken)))
 
 loop-holds : tie.Need-loop-holds Inv-loop μ-loop
 loop-holds c = search needs
@@ -36,7 +37,7 @@ cast-if2 : tie.Need-cast-if2 Inv-loop μ-loop
 cast-if2 c = omega (arith, (c .shared-slice-known .given) (c .before .before .loop .i))
 
 returns-2 : tie.Need-returns-2 Inv-loop μ-loop
-returns-2 c = sym (named-not _ (c .before .before .before .before .before .args .role ∷ c .before .before .before .before .before .args .chain .now) (suc (c .before .before .before .loop .i)) (omega arith) (c .if2 .taken))
+returns-2 c = ap check (sym (named-not _ (c .before .before .before .before .before .args .role ∷ c .before .before .before .before .before .args .chain .now) (suc (c .before .before .before .loop .i)) (omega arith) (c .if2 .taken)))
 
 add-i : tie.Need-add-i Inv-loop μ-loop
 add-i c = search needs
@@ -48,7 +49,7 @@ loop-again : tie.Need-loop-again Inv-loop μ-loop
 loop-again c = (omega arith, below-more _ _ (c .before .before .before .loop .inv .1) (c .if2 .left))
 
 returns-3 : tie.Need-returns-3 Inv-loop μ-loop
-returns-3 c = sym (named-so _ _ _ (c .before .before .if1 .left) (λ k l. (c .before .loop .inv .1) k (omega arith)))
+returns-3 c = ap check (sym (named-so _ _ _ (c .before .before .if1 .left) (λ k l. (c .before .loop .inv .1) k (omega arith))))
 
 pub roles-fit-spec : {M : Type 1} → statement M
 roles-fit-spec =

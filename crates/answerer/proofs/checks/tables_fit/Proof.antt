@@ -1,37 +1,38 @@
 -- `tables_fit` meets its contract: the tests are the definition's, in its order.
-use mathlib.Core.Path.{sym, _∙_}
+use mathlib.Core.Path.{ap, sym, _∙_}
 use borrow.Author.Needs.{needs}
 use Rattle.simulation.specs.Decides.{test-failed, test-passed}
 use Rattle.simulation.specs.TablesLaws.{heads-none, heads-many, heads-wrong, moves-cut, moves-many, moves-left}
+use Rattle.refusals.specs.Check.{check}
 use Rattle.answerer.proofs.checks.tables_fit.Statement.{statement}
 use Rattle.answerer.proofs.checks.tables_fit.Tie as tie
 
 returns : tie.Need-returns
-returns c = sym (heads-none _ _ (c .if1 .taken))
+returns c = ap check (sym (heads-none _ _ (c .if1 .taken)))
 
 returns-2 : tie.Need-returns-2
-returns-2 c = sym (heads-many _ _ (c .before .if1 .left) (c .if2 .taken))
+returns-2 c = ap check (sym (heads-many _ _ (c .before .if1 .left) (c .if2 .taken)))
 
 heads-fit-requires : tie.Need-heads-fit-requires
 heads-fit-requires c κs = search needs
 
 returns-3 : tie.Need-returns-3
-returns-3 c = sym (heads-wrong _ _ (c .before .before .before .if1 .left) (c .before .before .if2 .left) (test-failed _ _ (c .before .heads-fit .ensures) (c .if3 .taken)))
+returns-3 c = ap check (sym (heads-wrong _ _ (c .before .before .before .if1 .left) (c .before .before .if2 .left) (test-failed _ _ (c .before .heads-fit .ensures) (c .if3 .taken))))
 
 returns-4 : tie.Need-returns-4
-returns-4 c = sym (moves-cut _ _ (c .before .before .before .before .if1 .left) (c .before .before .before .if2 .left) (test-passed _ _ (c .before .before .heads-fit .ensures) (c .before .if3 .left)) (c .if4 .taken))
+returns-4 c = ap check (sym (moves-cut _ _ (c .before .before .before .before .if1 .left) (c .before .before .before .if2 .left) (test-passed _ _ (c .before .before .heads-fit .ensures) (c .before .if3 .left)) (c .if4 .taken)))
 
 returns-5 : tie.Need-returns-5
-returns-5 c = sym (moves-many _ _ (c .before .before .before .before .before .if1 .left) (c .before .before .before .before .if2 .left) (test-passed _ _ (c .before .before .before .heads-fit .ensures) (c .before .before .if3 .left)) (c .before .if4 .left) (c .if5 .taken))
+returns-5 c = ap check (sym (moves-many _ _ (c .before .before .before .before .before .if1 .left) (c .before .before .before .before .if2 .left) (test-passed _ _ (c .before .before .before .heads-fit .ensures) (c .before .before .if3 .left)) (c .before .if4 .left) (c .if5 .taken)))
 
 transitions-fit-requires : tie.Need-transitions-fit-requires
 transitions-fit-requires c κs = search needs
 
 returns-6 : tie.Need-returns-6
-returns-6 c = sym (moves-left _ _ (c .before .before .before .before .before .before .before .if1 .left) (c .before .before .before .before .before .before .if2 .left) (test-passed _ _ (c .before .before .before .before .before .heads-fit .ensures) (c .before .before .before .before .if3 .left)) (c .before .before .before .if4 .left) (c .before .before .if5 .left) ∙ test-failed _ _ (c .before .transitions-fit .ensures) (c .if6 .taken))
+returns-6 c = ap check (sym (moves-left _ _ (c .before .before .before .before .before .before .before .if1 .left) (c .before .before .before .before .before .before .if2 .left) (test-passed _ _ (c .before .before .before .before .before .heads-fit .ensures) (c .before .before .before .before .if3 .left)) (c .before .before .before .if4 .left) (c .before .before .if5 .left) ∙ test-failed _ _ (c .before .transitions-fit .ensures) (c .if6 .taken)))
 
 returns-7 : tie.Need-returns-7
-returns-7 c = sym (moves-left _ _ (c .before .before .before .before .before .before .before .if1 .left) (c .before .before .before .before .before .before .if2 .left) (test-passed _ _ (c .before .before .before .before .before .heads-fit .ensures) (c .before .before .before .before .if3 .left)) (c .before .before .before .if4 .left) (c .before .before .if5 .left) ∙ test-passed _ _ (c .before .transitions-fit .ensures) (c .if6 .left))
+returns-7 c = ap check (sym (moves-left _ _ (c .before .before .before .before .before .before .before .if1 .left) (c .before .before .before .before .before .before .if2 .left) (test-passed _ _ (c .before .before .before .before .before .heads-fit .ensures) (c .before .before .before .before .if3 .left)) (c .before .before .before .if4 .left) (c .before .before .if5 .left) ∙ test-passed _ _ (c .before .transitions-fit .ensures) (c .if6 .left)))
 
 pub tables-fit-spec : {M : Type 1} → statement M
 tables-fit-spec =

@@ -8,7 +8,7 @@ use Rattle.format.specs.Place.{rule-place}
 use Rattle.layout.specs.Filling.{Located}
 use Rattle.layout.specs.FillingLaws.{located-none, located-more}
 use Rattle.layout.specs.IndexLaws.{rule-whole}
-use Rattle.reader.specs.CursorLaws.{at-rule, some-rule}
+use Rattle.cursor.specs.CursorLaws.{at-rule, some-rule}
 use Rattle.builder.proofs.index.locate.Statement.{statement}
 use Rattle.builder.proofs.index.locate.Tie as tie
 

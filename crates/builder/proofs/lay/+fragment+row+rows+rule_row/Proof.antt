@@ -17,8 +17,8 @@ use Rattle.builder.specs.RuleLaws.{state-small, whole-here, row-ends, ro
 use Rattle.layout.specs.Fragment.{fragment-over}
 use Rattle.layout.specs.Indexed.{first-in, level-in}
 use Rattle.layout.specs.IndexedLaws.{later, name-small}
-use Rattle.reader.proofs.inverse.Reads as inverse-reads
-use Rattle.reader.proofs.name.Reads as name-reads
+use Rattle.role_bytes.proofs.inverse.Reads as inverse-reads
+use Rattle.role_bytes.proofs.name.Reads as name-reads
 use Rattle.roles.specs.Role.{name}
 use Rattle.roles.specs.RoleLaws.{name-inv, inv-below}
 use Rattle.builder.proofs.index.first_of.Reads as first-of-reads

@@ -4,9 +4,10 @@ use Prim.Native.Nat.{_≤_, _-_}
 use native.Mathlib.Omega.{arith}
 use borrow.Author.Needs.{needs}
 use borrow.Author.Tests.{not-true, not-false}
-use Rattle.reader.specs.CursorLaws.{at-rule, some-rule}
-use Rattle.reader.specs.Verdict.{header-of}
-use Rattle.reader.specs.VerdictLaws.{check-passed, check-failed, headed}
+use Rattle.cursor.specs.CursorLaws.{at-rule, some-rule}
+use Rattle.decoder.specs.Verdict.{header-of}
+use Rattle.refusals.specs.Check.{check-passed, check-failed}
+use Rattle.decoder.specs.VerdictLaws.{headed}
 use Rattle.format.specs.FormatLaws.{length-first-rules}
 use Rattle.format.specs.Place.{rule-place}
 use Rattle.format.specs.RepeatLaws.{Searching, searching-start, searching-next, searching-found, searching-end}

@@ -5,10 +5,10 @@ use Prim.Native.Nat.{_≤_, _-_}
 use native.Mathlib.Omega.{arith}
 use borrow.Author.Needs.{needs}
 use borrow.Author.Tests.{not-true, not-false}
-use Rattle.reader.specs.Cursor.{entry-rule}
-use Rattle.reader.specs.CursorLaws.{at-rule, some-rule}
-use Rattle.reader.specs.Verdict.{check}
-use Rattle.reader.specs.VerdictLaws.{check-passed, check-failed}
+use Rattle.cursor.specs.Cursor.{entry-rule}
+use Rattle.cursor.specs.CursorLaws.{at-rule, some-rule}
+use Rattle.refusals.specs.Check.{check}
+use Rattle.refusals.specs.Check.{check-passed, check-failed}
 use Rattle.format.specs.Format.{repeats}
 use Rattle.format.specs.Place.{rule-place, first-rules}
 use Rattle.format.specs.RepeatLaws.{repeats-none, repeats-found}

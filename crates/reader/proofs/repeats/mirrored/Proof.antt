@@ -1,7 +1,7 @@
 -- `mirrored` meets its contract: sizes, right roles and left sides decide whether one rule is the other's inverse.
 use mathlib.Core.Path.{sym, _∙_}
 use borrow.Author.Needs.{needs}
-use Rattle.reader.specs.EntryLaws.{sizes-not-inverse, rights-not-inverse, lefts-inverse}
+use Rattle.cursor.specs.EntryLaws.{sizes-not-inverse, rights-not-inverse, lefts-inverse}
 use Rattle.reader.proofs.repeats.mirrored.Statement.{statement}
 use Rattle.reader.proofs.repeats.mirrored.Tie as tie
 

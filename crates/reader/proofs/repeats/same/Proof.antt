@@ -1,7 +1,7 @@
 -- `same` meets its contract: sizes, right roles and left sides decide whether two rules are equal.
 use mathlib.Core.Path.{sym, _∙_}
 use borrow.Author.Needs.{needs}
-use Rattle.reader.specs.EntryLaws.{sizes-differ, rights-differ, lefts-same}
+use Rattle.cursor.specs.EntryLaws.{sizes-differ, rights-differ, lefts-same}
 use Rattle.reader.proofs.repeats.same.Statement.{statement}
 use Rattle.reader.proofs.repeats.same.Tie as tie
 

@@ -1,0 +1,5 @@
+// What a check finds.
+pub enum Check {
+    Passed,
+    Failed,
+}
