@@ -1,18 +1,40 @@
 // The calls for programs in C and Rust, as a static library. Each returns the number of the cause that refuses its input, or 0, and stores in the
-// numbers lent to it the answer, or what document 01 gives beside the cause.
-ghost use Rattle.rabbitsteel.specs.Tells.{Tells, Builds, Asks, Derives, read-counts};
-
+// numbers lent to it what it tells: counts or an answer, or what document 01 gives beside the cause.
+ghost use mathlib.Core.Path.{_≡_};
+ghost use Rattle.causes.specs.Ordered.{ordered};
+ghost use Rattle.decoder.specs.Verdict.{says};
+ghost use Rattle.format.specs.Format.{read};
+ghost use Rattle.format.specs.Result.{map-result};
+ghost use Rattle.refusals.specs.Refusal.{cause-of, value-of};
+ghost use Rattle.rabbitsteel.specs.Tells.{Tells, Builds, Asks, Derives, book-counts, header-counts};
 use answerer::Answer;
 use builder::Outcome;
+use decoder::Verdict;
 use deriver::Reply;
-use reader::Verdict;
+use refusals::Refusal;
 
 // Causes 1 to 7. Accepted: how many names and how many rules the book has. Refused: the value beside the cause, and 0.
 #[no_mangle]
 pub extern "C" fn rabbitsteel_read(book: &[u8], first: &mut u64, second: &mut u64) -> u64
-    ensures { λ r. ⌜ Tells (read-counts (now (book .entry))) r (now (first .exit)) (now (second .exit)) ⌝ }
+    ensures { λ r. ⌜ Tells (map-result book-counts (read (now (book .entry)))) r (now (first .exit)) (now (second .exit)) ⌝ }
 {
-    let verdict = reader::read(book);
+    tell(reader::read(book), first, second)
+}
+
+// Causes 1 to 8. Accepted: how many names and how many rules the book has. Refused: the value beside the cause, and 0.
+#[no_mangle]
+pub extern "C" fn rabbitsteel_order(book: &[u8], first: &mut u64, second: &mut u64) -> u64
+    ensures { λ r. ⌜ Tells (map-result book-counts (ordered (now (book .entry)))) r (now (first .exit)) (now (second .exit)) ⌝ }
+{
+    let ordering = orderer::order(book);
+    let verdict = ordering.verdict;
+    tell(verdict, first, second)
+}
+
+// Stores what a verdict tells; returns the number of its cause, or 0.
+fn tell(verdict: Verdict, first: &mut u64, second: &mut u64) -> u64
+    ensures { λ r. ⌜ Tells (map-result header-counts (says verdict)) r (now (first .exit)) (now (second .exit)) ⌝ }
+{
     match verdict {
         Verdict::WellFormed(header) => {
             *first = header.names as u64;
@@ -20,15 +42,23 @@ pub extern "C" fn rabbitsteel_read(book: &[u8], first: &mut u64, second: &mut u6
             0
         }
         Verdict::Refused(refusal) => {
-            *first = reader::value(refusal) as u64;
             *second = 0;
-            reader::cause(refusal) as u64
+            refuse(refusal, first)
         }
     }
 }
 
-// Causes 1 to 11, and the tables. Accepted: how many states and how many moves they have. Refused: the value beside the cause, and 0; heads and moves
-// are left as they were.
+// Stores the value beside the cause of a refusal; returns the number of the cause.
+fn refuse(refusal: Refusal, value: &mut u64) -> u64
+    ensures cause { λ r. ⌜ r ≡ cause-of refusal ⌝ }
+    ensures value { λ r. ⌜ now (value .exit) ≡ value-of refusal ⌝ }
+{
+    *value = refusals::value(refusal) as u64;
+    refusals::cause(refusal) as u64
+}
+
+// Causes 1 to 11, and the tables. Accepted: how many states and how many transitions they have. Refused: the value beside the cause, and 0; heads
+// and moves are left as they were.
 #[no_mangle]
 pub extern "C" fn rabbitsteel_build(
     book: &[u8],
@@ -37,7 +67,8 @@ pub extern "C" fn rabbitsteel_build(
     first: &mut u64,
     second: &mut u64,
 ) -> u64
-    ensures { λ r. ⌜ Builds (now (book .entry)) (now (heads .entry)) (now (moves .entry)) (now (heads .exit)) (now (moves .exit)) r (now (first .exit)) (now (second .exit)) ⌝ }
+    ensures { λ r. ⌜ Builds (now (book .entry)) (now (heads .entry)) (now (moves .entry)) (now (heads .exit)) (now (moves .exit)) r
+        (now (first .exit)) (now (second .exit)) ⌝ }
 {
     let outcome = builder::build(book, heads, moves);
     match outcome {
@@ -47,9 +78,8 @@ pub extern "C" fn rabbitsteel_build(
             0
         }
         Outcome::Refused(refusal) => {
-            *first = reader::value(refusal) as u64;
             *second = 0;
-            reader::cause(refusal) as u64
+            refuse(refusal, first)
         }
     }
 }
@@ -92,7 +122,8 @@ pub extern "C" fn rabbitsteel_derived(
     chain: &[u8],
     answer: &mut u64,
 ) -> u64
-    ensures { λ r. ⌜ Derives (now (book .entry)) (now (heads .entry)) (now (moves .entry)) role (now (chain .entry)) (now (heads .exit)) (now (moves .exit)) r (now (answer .exit)) ⌝ }
+    ensures { λ r. ⌜ Derives (now (book .entry)) (now (heads .entry)) (now (moves .entry)) role (now (chain .entry)) (now (heads .exit))
+        (now (moves .exit)) r (now (answer .exit)) ⌝ }
 {
     let reply = deriver::derived(book, heads, moves, role, chain);
     match reply {
@@ -104,10 +135,7 @@ pub extern "C" fn rabbitsteel_derived(
             *answer = 0;
             0
         }
-        Reply::Book(refusal) => {
-            *answer = reader::value(refusal) as u64;
-            reader::cause(refusal) as u64
-        }
+        Reply::Book(refusal) => refuse(refusal, answer),
         Reply::Question(refusal) => {
             *answer = 0;
             answerer::cause(refusal) as u64

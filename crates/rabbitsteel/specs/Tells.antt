@@ -1,4 +1,4 @@
--- What the calls return and store: the number of the cause or 0, and the answer or the value beside the cause.
+-- What the calls return and store: the number of the cause or 0, and counts or an answer, or the value beside the cause.
 use mathlib.Core.Bool.{Bool, true, false}
 use mathlib.Core.List.{List}
 use mathlib.Core.Path.{_≡_}
@@ -8,43 +8,55 @@ use Rattle.roles.specs.Role.{Chain}
 use Rattle.roles.specs.Rule.{Book}
 use Rattle.format.specs.Result.{Result, map-result}
 use Rattle.format.specs.Result.Result.{refused, accepted}
-use Rattle.format.specs.Format.{read}
 use Rattle.causes.specs.Built.{states-of, count-of, heads-of, moves-of, built, written}
 use Rattle.queries.specs.Query.{Answered}
 use Rattle.answers.specs.Reply.{Replied}
+use Rattle.decoder.specs.declared.verdict.Header.{Header}
 
--- a result as three numbers
-abbrev pub cause-told : Result (ℕ × ℕ) → ℕ
+-- two numbers told
+pub record Pair : Type 0 where
+  pub one : ℕ
+  pub two : ℕ
+
+-- a result as three numbers: the cause or 0, and what is told
+abbrev pub cause-told : Result Pair → ℕ
 cause-told (refused cause value) = cause
-cause-told (accepted (a, b)) = 0
+cause-told (accepted p) = 0
 
-abbrev pub first-told : Result (ℕ × ℕ) → ℕ
+abbrev pub first-told : Result Pair → ℕ
 first-told (refused cause value) = value
-first-told (accepted (a, b)) = a
+first-told (accepted p) = p .one
 
-abbrev pub second-told : Result (ℕ × ℕ) → ℕ
+abbrev pub second-told : Result Pair → ℕ
 second-told (refused cause value) = 0
-second-told (accepted (a, b)) = b
+second-told (accepted p) = p .two
 
-pub record Tells (r : Result (ℕ × ℕ)) (cause first second : ℕ) : Type 0 where
+pub record Tells (r : Result Pair) (cause first second : ℕ) : Type 0 where
   pub cause-is : cause ≡ cause-told r
   pub first-is : first ≡ first-told r
   pub second-is : second ≡ second-told r
 
 -- how many names and rules
-abbrev pub read-counts : List ℕ → Result (ℕ × ℕ)
-read-counts s = map-result (λ (b : Book). (b .names, length (b .rules))) (read s)
+abbrev pub header-counts : Header → Pair
+header-counts h = record { one = h .names; two = h .rules }
 
--- how many states and moves, and the lent tables
+abbrev pub book-counts : Book → Pair
+book-counts b = record { one = b .names; two = length (b .rules) }
+
+-- how many states and transitions
+abbrev pub table-counts : Book → Pair
+table-counts b = record { one = states-of b; two = count-of b }
+
+-- what a build tells, and the lent tables
 pub record Builds (s h m h′ m′ : List ℕ) (cause first second : ℕ) : Type 0 where
-  pub tells : Tells (map-result (λ (b : Book). (states-of b, count-of b)) (built s (length h) (length m))) cause first second
+  pub tells : Tells (map-result table-counts (built s (length h) (length m))) cause first second
   pub heads : h′ ≡ written (built s (length h) (length m)) heads-of h
   pub moves : m′ ≡ written (built s (length h) (length m)) moves-of m
 
 -- yes is 1, no is 0
-abbrev pub bit : Bool → ℕ × ℕ
-bit true = (1, 0)
-bit false = (0, 0)
+abbrev pub bit : Bool → Pair
+bit true = record { one = 1; two = 0 }
+bit false = record { one = 0; two = 0 }
 
 -- the answer of tables
 pub record Asks (h m : List ℕ) (r : ℕ) (w : Chain) (cause answer : ℕ) : Type 0 where
