@@ -1,0 +1,150 @@
+/*
+ * The calls of the relation engine, for programs that link librabbitsteel.a.
+ *
+ * Every call returns the number of the cause that refuses its input, or RABBITSTEEL_ACCEPTED. The
+ * first cause met, in the order of their numbers, is the whole answer; causes 5 and 6 go rule by
+ * rule, and bytes after the last rule come next. What a call has to tell it stores in the numbers
+ * lent to it, refused or not: the value beside a cause is a rule number for causes 5 to 8, and 0
+ * for every other.
+ *
+ * The calls keep no state, allocate nothing and read only the memory lent to them, so several
+ * threads may call at once on different memory. What the caller owes:
+ *
+ * - Every pointer is valid and aligned for its type, also where its length is 0: not null.
+ * - A length counts elements, not bytes.
+ * - Memory that a call writes overlaps nothing else that the same call is lent.
+ * - Room on the stack: a question takes about 30 KB of it, a matter only for very small stacks.
+ */
+#ifndef RABBITSTEEL_H
+#define RABBITSTEEL_H
+
+#include <stddef.h>
+#include <stdint.h>
+
+#ifdef __cplusplus
+extern "C" {
+#endif
+
+/* The largest sizes. Buffers of NAMES_MAX heads and MOVES_LEN moves suffice for every book. */
+#define RABBITSTEEL_BOOK_MAX 2568   /* bytes of a book */
+#define RABBITSTEEL_NAMES_MAX 64    /* names of a book, and heads of its tables */
+#define RABBITSTEEL_RULES_MAX 256   /* rules of a book */
+#define RABBITSTEEL_STATES_MAX 2048 /* states of its tables */
+#define RABBITSTEEL_MOVES_MAX 5120  /* moves of its tables */
+#define RABBITSTEEL_MOVES_LEN 15360 /* numbers of its moves, three to a move: from, label, to */
+#define RABBITSTEEL_CHAIN_MAX 1024  /* links of a chain */
+
+/* The label of a silent move. Labels below it are role bytes. */
+#define RABBITSTEEL_SILENT 128
+
+/* The role byte of a name, 0 to 63; the inverse of a role byte; the name of a role byte. */
+#define RABBITSTEEL_ROLE(name) ((uint8_t)((name) << 1))
+#define RABBITSTEEL_INVERSE(role) ((uint8_t)((role) ^ 1))
+#define RABBITSTEEL_NAME(role) ((uint8_t)((role) >> 1))
+
+/* Why an input is refused. The comments say what the value beside a cause is, where it is not 0. */
+enum rabbitsteel_cause {
+    RABBITSTEEL_ACCEPTED = 0,
+
+    /* the book */
+    RABBITSTEEL_CAUSE_SIZE = 1,       /* fewer than 8 or more than 2,568 bytes */
+    RABBITSTEEL_CAUSE_MARK = 2,       /* it does not begin with RLB */
+    RABBITSTEEL_CAUSE_VERSION = 3,    /* its version is not 1 */
+    RABBITSTEEL_CAUSE_RANGE = 4,      /* names not 1 to 64, or over 256 rules */
+    RABBITSTEEL_CAUSE_MALFORMED = 5,  /* a left side of 0 or over 8 roles, or a rule cut short: that
+                                         rule; bytes after the last rule: the number of rules */
+    RABBITSTEEL_CAUSE_UNDECLARED = 6, /* a role of a name that the book does not have: the rule */
+    RABBITSTEEL_CAUSE_REPEATED = 7,   /* rules equal to an earlier one or its mirror: the lowest */
+    RABBITSTEEL_CAUSE_NO_ORDER = 8,   /* no regular order: the last rule of the shortest front part
+                                         without one */
+    RABBITSTEEL_CAUSE_STATES = 9,     /* over 2,048 states */
+    RABBITSTEEL_CAUSE_MOVES = 10,     /* over 5,120 moves */
+
+    /* the memory lent for its tables */
+    RABBITSTEEL_CAUSE_SHORT = 11,     /* heads or moves lent too short */
+
+    /* the question */
+    RABBITSTEEL_CAUSE_TABLES = 12,    /* no head or over 64, a head over 2,046, moves not in threes
+                                         or over 15,360 numbers, a state over 2,047, a label over
+                                         128 */
+    RABBITSTEEL_CAUSE_CHAIN = 13,     /* 0 or over 1,024 links */
+    RABBITSTEEL_CAUSE_ROLE = 14       /* a role, asked or in the chain, of a name without a head */
+};
+
+/* A cause in words. */
+static inline const char *rabbitsteel_words(uint64_t cause)
+{
+    switch (cause) {
+    case RABBITSTEEL_ACCEPTED: return "accepted";
+    case RABBITSTEEL_CAUSE_SIZE: return "the book has fewer than 8 or more than 2,568 bytes";
+    case RABBITSTEEL_CAUSE_MARK: return "the book does not begin with the mark RLB";
+    case RABBITSTEEL_CAUSE_VERSION: return "the version is not 1";
+    case RABBITSTEEL_CAUSE_RANGE: return "the names are not 1 to 64, or the rules over 256";
+    case RABBITSTEEL_CAUSE_MALFORMED:
+        return "a left side of 0 or over 8 roles, a rule cut short, or bytes after the last rule";
+    case RABBITSTEEL_CAUSE_UNDECLARED: return "a role of a name that the book does not have";
+    case RABBITSTEEL_CAUSE_REPEATED: return "a rule equals an earlier rule or its mirror";
+    case RABBITSTEEL_CAUSE_NO_ORDER: return "no regular order";
+    case RABBITSTEEL_CAUSE_STATES: return "the tables have over 2,048 states";
+    case RABBITSTEEL_CAUSE_MOVES: return "the tables have over 5,120 moves";
+    case RABBITSTEEL_CAUSE_SHORT: return "heads or moves lent too short";
+    case RABBITSTEEL_CAUSE_TABLES: return "the tables are out of bounds";
+    case RABBITSTEEL_CAUSE_CHAIN: return "the chain has 0 or over 1,024 links";
+    case RABBITSTEEL_CAUSE_ROLE: return "a role of a name that the tables do not have";
+    default: return "no cause has this number";
+    }
+}
+
+/*
+ * Reads a book: causes 1 to 7.
+ * Accepted: *first is the number of names, *second the number of rules.
+ * Refused: *first is the value beside the cause, *second is 0.
+ */
+uint64_t rabbitsteel_read(const uint8_t *book, size_t book_len, uint64_t *first, uint64_t *second);
+
+/*
+ * Reads a book and checks that its rules have a regular order: causes 1 to 8.
+ * It stores what rabbitsteel_read stores.
+ */
+uint64_t rabbitsteel_order(const uint8_t *book, size_t book_len, uint64_t *first, uint64_t *second);
+
+/*
+ * Builds the tables of a book: causes 1 to 11.
+ * Accepted: *first is the number of states, *second the number of moves. The first heads, one to a
+ * name, and the first 3 * *second numbers of moves are written; the numbers after them keep their
+ * values and are no part of the tables.
+ * Refused: *first is the value beside the cause, *second is 0; heads and moves are unchanged.
+ * RABBITSTEEL_NAMES_MAX heads and RABBITSTEEL_MOVES_LEN moves suffice for every book.
+ */
+uint64_t rabbitsteel_build(const uint8_t *book, size_t book_len, uint16_t *heads, size_t heads_len,
+                           uint16_t *moves, size_t moves_len, uint64_t *first, uint64_t *second);
+
+/*
+ * Asks tables whether the chain is derived from the role: causes 12 to 14.
+ * Lend it the numbers that a build wrote and no more: heads_len is the number of names, moves_len
+ * three times the number of moves. Tables that no book gave are answered too: yes where some path
+ * from the name's head to head + 1 spells the chain, silent moves free.
+ * Accepted: *answer is 1 for yes and 0 for no.
+ * Refused: *answer is 0.
+ */
+uint64_t rabbitsteel_ask(const uint16_t *heads, size_t heads_len, const uint16_t *moves,
+                         size_t moves_len, uint8_t role, const uint8_t *chain, size_t chain_len,
+                         uint64_t *answer);
+
+/*
+ * Builds the tables of a book and asks them, lending the question the written numbers alone:
+ * causes 1 to 11, then 12 to 14, of which 12 never holds of tables just built.
+ * Accepted: *answer is 1 where the book's rules derive the chain from the role, and 0 elsewhere.
+ * Refused: *answer is the value beside the cause.
+ * Heads and moves are left as rabbitsteel_build leaves them, also where the question is refused;
+ * the same lengths suffice.
+ */
+uint64_t rabbitsteel_derived(const uint8_t *book, size_t book_len, uint16_t *heads,
+                             size_t heads_len, uint16_t *moves, size_t moves_len, uint8_t role,
+                             const uint8_t *chain, size_t chain_len, uint64_t *answer);
+
+#ifdef __cplusplus
+}
+#endif
+
+#endif
