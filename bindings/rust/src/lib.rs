@@ -1,0 +1,174 @@
+//! Safe calls of the proved relation engine.
+//!
+//! A book holds rules over links, such as "part sits to sits": a part of what sits in a hall sits
+//! there too. The engine reads a book, checks that its rules have a regular order, builds tables
+//! and answers whether a chain of links is derived from a role.
+//!
+//! A role byte is twice the name, plus 1 for the inverse; [`role`] and [`inverse`] make them. The
+//! calls keep no state and take no more memory than is lent to them, so they may run in several
+//! threads at once; a question takes about 30 KB of the stack.
+//!
+//! # The hall book
+//!
+//! ```
+//! use rabbitsteel::{inverse, role, Cause, Counts, Tables};
+//!
+//! const PART: u8 = role(0);
+//! const SITS: u8 = role(1);
+//! const LET: u8 = role(2);
+//! const DUE: u8 = role(3);
+//!
+//! // Four names and three rules, each as right role, length, left roles.
+//! let book = [
+//!     b'R', b'L', b'B', 1, 0, 4, 3, 0, // mark, version, names, rules
+//!     PART, 2, PART, PART,             // part part to part
+//!     SITS, 2, PART, SITS,             // part sits to sits
+//!     DUE, 2, SITS, LET,               // sits let to due
+//! ];
+//!
+//! let tables = Tables::of(&book)?;
+//! assert_eq!(tables.counts(), Counts { states: 16, moves: 18 });
+//! assert!(tables.ask(DUE, &[PART, PART, SITS, LET])?);
+//! assert!(!tables.ask(DUE, &[SITS, PART, LET])?);
+//! assert!(tables.ask(inverse(DUE), &[inverse(LET), inverse(SITS), inverse(PART)])?);
+//!
+//! let refusal = tables.ask(DUE, &[]).unwrap_err();
+//! assert_eq!(refusal.cause, Cause::Chain);
+//! assert_eq!(refusal.to_string(), "refused 13: the chain has 0 or over 1,024 links");
+//! # Ok::<(), rabbitsteel::Refusal>(())
+//! ```
+
+#![warn(missing_docs)]
+#![deny(unsafe_code)]
+
+#[allow(unsafe_code)]
+mod calls;
+mod refusal;
+mod tables;
+
+pub use refusal::{Cause, Refusal};
+pub use tables::Tables;
+
+use calls::Told;
+
+/// The most bytes of a book.
+pub const BOOK_MAX: usize = 2568;
+/// The most names of a book. So many heads suffice for the tables of every book.
+pub const NAMES_MAX: usize = 64;
+/// The most rules of a book.
+pub const RULES_MAX: usize = 256;
+/// The most states of a book's tables.
+pub const STATES_MAX: usize = 2048;
+/// The most moves of a book's tables.
+pub const MOVES_MAX: usize = 5120;
+/// So many numbers of moves suffice for the tables of every book.
+pub const MOVES_LEN: usize = 3 * MOVES_MAX;
+/// The most links of a chain.
+pub const CHAIN_MAX: usize = 1024;
+/// The label of a silent move. Labels below it are role bytes.
+pub const SILENT: u16 = 128;
+
+/// The role byte of a name.
+///
+/// # Panics
+///
+/// If the name is over 63. In a constant this is a compile error.
+pub const fn role(name: u8) -> u8 {
+    assert!(name < 64, "a name is 0 to 63");
+    name << 1
+}
+
+/// The inverse of a role byte.
+pub const fn inverse(role: u8) -> u8 {
+    role ^ 1
+}
+
+/// What a book says of itself.
+#[derive(Debug, Clone, Copy, PartialEq, Eq, Hash)]
+pub struct Header {
+    /// How many names it has.
+    pub names: usize,
+    /// How many rules it has.
+    pub rules: usize,
+}
+
+/// How large the tables of a book are.
+#[derive(Debug, Clone, Copy, PartialEq, Eq, Hash)]
+pub struct Counts {
+    /// How many states they have.
+    pub states: usize,
+    /// How many moves they have.
+    pub moves: usize,
+}
+
+impl Counts {
+    /// How many numbers the moves take, three to each.
+    pub const fn numbers(self) -> usize {
+        3 * self.moves
+    }
+}
+
+/// Reads a book: causes 1 to 7.
+pub fn read(book: &[u8]) -> Result<Header, Refusal> {
+    let (names, rules) = accepted(calls::read(book))?;
+    Ok(Header { names, rules })
+}
+
+/// Reads a book and checks that its rules have a regular order: causes 1 to 8.
+pub fn order(book: &[u8]) -> Result<Header, Refusal> {
+    let (names, rules) = accepted(calls::order(book))?;
+    Ok(Header { names, rules })
+}
+
+/// Builds the tables of a book in lent memory: causes 1 to 11.
+///
+/// The first heads, one to a name, and the first [`Counts::numbers`] of `moves` are written; the
+/// numbers after them keep their values and are no part of the tables. A book that is refused
+/// leaves `heads` and `moves` unchanged. [`NAMES_MAX`] heads and [`MOVES_LEN`] moves suffice for
+/// every book. [`Tables`] does the same with memory of its own.
+pub fn build(book: &[u8], heads: &mut [u16], moves: &mut [u16]) -> Result<Counts, Refusal> {
+    let (states, moves) = accepted(calls::build(book, heads, moves))?;
+    Ok(Counts { states, moves })
+}
+
+/// Asks tables whether the chain is derived from the role: causes 12 to 14.
+///
+/// Lend it the numbers that a build wrote and no more. Tables that no book gave are answered too:
+/// yes where some path from the name's head to head + 1 spells the chain, silent moves free.
+pub fn ask(heads: &[u16], moves: &[u16], role: u8, chain: &[u8]) -> Result<bool, Refusal> {
+    let (answer, _) = accepted(calls::ask(heads, moves, role, chain))?;
+    Ok(answer == 1)
+}
+
+/// Builds the tables of a book in lent memory and asks them: causes 1 to 11, then 13 and 14.
+///
+/// Yes exactly where the book's rules derive the chain from the role. `heads` and `moves` are left
+/// as [`build`] leaves them, also where the question is refused.
+pub fn derived(
+    book: &[u8],
+    heads: &mut [u16],
+    moves: &mut [u16],
+    role: u8,
+    chain: &[u8],
+) -> Result<bool, Refusal> {
+    let (answer, _) = accepted(calls::derived(book, heads, moves, role, chain))?;
+    Ok(answer == 1)
+}
+
+/// The two numbers that a call stored, or why it refuses.
+fn accepted(told: Told) -> Result<(usize, usize), Refusal> {
+    let first = size(told.first);
+    if told.cause == 0 {
+        return Ok((first, size(told.second)));
+    }
+    let cause = Cause::numbered(told.cause).expect("the archive has the causes of this package");
+    Err(Refusal {
+        cause,
+        value: first,
+    })
+}
+
+/// A count or a rule number, none of which is over 15,360.
+fn size(number: u64) -> usize {
+    usize::try_from(number).expect("the archive gives small numbers")
+}
