@@ -9,40 +9,37 @@ ghost use Rattle.queries.specs.Query.{tables-fit, Accepts, Answered};
 ghost use Rattle.simulation.specs.Decides.{Decides};
 ghost use Rattle.answerer.specs.Answer.{says};
 
-mod answer;
-mod checks;
 mod index;
 mod reading;
 mod states;
 
-pub use answer::Answer;
-pub use answer::QueryRefusal;
-pub use answer::cause;
-use checks::chain_fits;
-use checks::roles_fit;
-use checks::tables_fit;
 use index::fill_index;
+use questions::QueryRefusal;
+use questions::Question;
 use reading::run;
-use refusals::Check;
 use role_bytes::name;
+
+// What a question is answered with.
+pub enum Answer {
+    // Some path spells the chain.
+    Yes,
+    // No path does.
+    No,
+    // The question is refused; the value beside each of its causes is 0.
+    Refused(QueryRefusal),
+}
 
 // Whether tables accept a chain for a role: the first refusal of causes 12, 13 and 14; else yes or no.
 pub fn ask(heads: &[u16], moves: &[u16], role: u8, chain: &[u8]) -> Answer
     ensures { λ r. ⌜ Answered (now (heads .entry)) (now (moves .entry)) role (now (chain .entry)) (says r) ⌝ }
 {
-    let Check::Passed = tables_fit(heads, moves) else {
-        return Answer::Refused(QueryRefusal::Tables);
+    let Question::Refused(refusal) = questions::check(heads, moves, role, chain) else {
+        if !accepts(heads, moves, role, chain) {
+            return Answer::No;
+        }
+        return Answer::Yes;
     };
-    let Check::Passed = chain_fits(chain) else {
-        return Answer::Refused(QueryRefusal::Chain);
-    };
-    let Check::Passed = roles_fit(heads.len(), role, chain) else {
-        return Answer::Refused(QueryRefusal::Role);
-    };
-    if !accepts(heads, moves, role, chain) {
-        return Answer::No;
-    }
-    Answer::Yes
+    Answer::Refused(refusal)
 }
 
 // Whether a path from the name's initial state to its final one spells the chain, or its inverse for the inverse of a name.

@@ -10,7 +10,7 @@ use Rattle.format.specs.Result.Result.{refused, accepted}
 use Rattle.causes.specs.Built.{heads-of, moves-of, built, written}
 use Rattle.answers.specs.Reply.{Replied}
 use Rattle.refusals.specs.Refusal.{cause-of, value-of}
-use Rattle.answerer.specs.Answer.{cause-of as question-cause-of}
+use Rattle.questions.specs.Question.{cause-of as question-cause-of}
 use Rattle.deriver.specs.declared.Reply.{Reply}
 use Rattle.deriver.specs.declared.Reply.the-variants.{Yes, No, Book, Question}
 

@@ -14,7 +14,7 @@ use Rattle.answers.specs.Reply.Replied.{turned-away, settled}
 use Rattle.answers.specs.ReplyLaws.{decided}
 use Rattle.refusals.specs.declared.refusal.Refusal.{Refusal}
 use Rattle.refusals.specs.Refusal.{cause-of, value-of}
-use Rattle.answerer.specs.declared.answer.Answer.{Answer}
+use Rattle.answerer.specs.declared.Answer.{Answer}
 use Rattle.answerer.specs.Answer.{says as answer-says}
 use Rattle.builder.specs.declared.Counts.{Counts}
 use Rattle.builder.specs.declared.Outcome.the-variants.{Built, Refused}

@@ -4,8 +4,8 @@ ghost use lib.ListN.{length, take};
 ghost use Rattle.queries.specs.Query.{Answered};
 ghost use Rattle.deriver.specs.Replies.{says, Replies};
 use answerer::Answer;
-use answerer::QueryRefusal;
 use builder::Outcome;
+use questions::QueryRefusal;
 use refusals::Refusal;
 
 // What a question about a book is answered with.

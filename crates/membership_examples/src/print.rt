@@ -23,7 +23,7 @@ pub(crate) fn answer(text: &[u8], answer: Answer) {
             line(b": no");
         }
         Answer::Refused(refusal) => {
-            label(b": refused ", answerer::cause(refusal) as u64);
+            label(b": refused ", questions::cause(refusal) as u64);
             line(b"");
         }
     }

@@ -8,7 +8,7 @@ use Rattle.format.specs.Result.{Result, map-result}
 use Rattle.format.specs.Result.Result.{refused, accepted}
 use Rattle.causes.specs.Built.{built}
 use Rattle.queries.specs.Query.{Answered}
-use Rattle.answerer.specs.declared.answer.Answer.{Answer}
+use Rattle.answerer.specs.declared.Answer.{Answer}
 use Rattle.answerer.specs.Answer as answers
 use Rattle.builder.specs.declared.Counts.{Counts}
 use Rattle.builder.specs.declared.Outcome.{Outcome}

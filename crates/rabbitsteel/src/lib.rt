@@ -107,7 +107,7 @@ pub extern "C" fn rabbitsteel_ask(
         }
         Answer::Refused(refusal) => {
             *answer = 0;
-            answerer::cause(refusal) as u64
+            questions::cause(refusal) as u64
         }
     }
 }
@@ -138,7 +138,7 @@ pub extern "C" fn rabbitsteel_derived(
         Reply::Book(refusal) => refuse(refusal, answer),
         Reply::Question(refusal) => {
             *answer = 0;
-            answerer::cause(refusal) as u64
+            questions::cause(refusal) as u64
         }
     }
 }

@@ -1,4 +1,4 @@
--- Laws of questions: the first refusal met, and what a question that cause 14 does not refuse says of its roles.
+-- Laws of questions: the first refusal met, what a question that is not refused has passed, and what it then says of its roles.
 use mathlib.Core.Bool.{true, false}
 use mathlib.Core.List.{List, _∷_}
 use mathlib.Core.Path.{_≡_, refl}
@@ -7,6 +7,7 @@ use native.Mathlib.Omega.{arith}
 use lib.ListN.{length, getD}
 use Rattle.roles.specs.Role.{Chain, name}
 use Rattle.format.specs.Result.Result.{refused, accepted}
+use Rattle.format.specs.ResultLaws.{demand-test, demand-rest}
 use Rattle.format.specs.Format.{named}
 use Rattle.format.specs.NamedLaws.{named-all, named-link}
 use Rattle.queries.specs.Query.{tables-fit, chain-fits, query}
@@ -30,6 +31,18 @@ module _ (heads moves : List ℕ) (r : ℕ) (w : Chain) where
       pub query-accepted : named (length heads) (r ∷ w) ≡ true → query heads moves r w ≡ accepted tt
       unfolding query
       query-accepted h = rw (fit, sized, h) refl
+
+  -- what a question that is not refused has passed
+  module _ (passed : query heads moves r w ≡ accepted tt) where
+    pub passed-tables : tables-fit heads moves ≡ true
+    unfolding query
+    passed-tables = demand-test (tables-fit heads moves) 12 0 _ tt passed
+
+    pub passed-roles : named (length heads) (r ∷ w) ≡ true
+    unfolding query
+    passed-roles =
+        demand-test (named (length heads) (r ∷ w)) 14 0 _ tt
+        (demand-rest (chain-fits w) 13 0 _ tt (demand-rest (tables-fit heads moves) 12 0 _ tt passed))
 
 -- the roles that are named
 module _ (n r : ℕ) (w : Chain) where

@@ -10,7 +10,7 @@ use Rattle.transcripts.specs.Lines.{answer-line}
 use Rattle.transcripts.specs.Transcript.{Transcript}
 use Rattle.transcripts.specs.Transcript.Transcript.{answered}
 use Rattle.transcripts.specs.TranscriptLaws.{links-of, next-whole}
-use Rattle.answerer.specs.declared.answer.Answer.{Answer}
+use Rattle.answerer.specs.declared.Answer.{Answer}
 use Rattle.answerer.specs.Answer.{says}
 use Rattle.transcriber.specs.declared.block.Progress.{Progress}
 use Rattle.transcriber.specs.declared.question.Question.{Question}

@@ -7,7 +7,7 @@ use lib.ListN.{length, getD, set, take-append-drop, take, drop, length-append, l
 use lib.Seq.{take-all, set-split, take-suc, length-take-le, take-at, drop-at, drop-drop}
 use Rattle.io.specs.Counts.{Counts}
 use Rattle.transcripts.specs.Lines.{first-line, answer-line}
-use Rattle.answerer.specs.declared.answer.Answer.{Answer}
+use Rattle.answerer.specs.declared.Answer.{Answer}
 use Rattle.answerer.specs.Answer.{says}
 use Rattle.builder.specs.declared.Outcome.{Outcome}
 use Rattle.transcriber.specs.Puts.{Puts}

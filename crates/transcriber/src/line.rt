@@ -55,7 +55,7 @@ pub(crate) fn put_answer(out: &mut [u8], at: usize, number: u64, answer: Answer)
     match answer {
         Answer::Yes => put(out, start, b" yes\n"),
         Answer::No => put(out, start, b" no\n"),
-        Answer::Refused(refusal) => put_refusal(out, start, answerer::cause(refusal) as u64),
+        Answer::Refused(refusal) => put_refusal(out, start, questions::cause(refusal) as u64),
     }
 }
 

@@ -1,74 +1,42 @@
--- `ask` meets its contract: each check settles one cause in its turn, and what passes all is decided by `accepts`.
+-- `ask` meets its contract: `check` settles causes 12 to 14, and a question that passes them is decided by `accepts`.
+use mathlib.Core.Path.{sym, ap, _∙_}
 use borrow.Author.Needs.{needs}
 use borrow.Author.Tests.{not-true, not-false}
 use Rattle.queries.specs.Query.Answered.{turned-away, yes as answered-yes, no as answered-no}
-use Rattle.simulation.specs.QueryLaws.{query-tables, query-chain, query-role, query-accepted}
-use Rattle.simulation.specs.TablesLaws.{tables}
-use Rattle.refusals.specs.Check.{check-passed, check-failed}
+use Rattle.simulation.specs.QueryLaws.{passed-tables, passed-roles}
+use Rattle.questions.specs.Question.{says as found}
 use Rattle.answerer.proofs.ask.Statement.{statement}
 use Rattle.answerer.proofs.ask.Tie as tie
 
-tables-fit-requires : tie.Need-tables-fit-requires
-tables-fit-requires c κs = search needs
+check-requires : tie.Need-check-requires
+check-requires c κs = search needs
+
+enum-known-refusal : tie.Need-enum-known-refusal
+enum-known-refusal c = search needs
 
 enum-told : tie.Need-enum-told
 enum-told c = search needs
 
-enum-told-2 : tie.Need-enum-told-2
-enum-told-2 c = search needs
+accepts-requires : tie.Need-accepts-requires
+accepts-requires c κs = let passed = sym (c .before .before .check .ensures) ∙ ap found (c .enum-told .given .1) in (passed-tables _ _ _ _ passed, passed-roles _ _ _ _ passed)
 
 returns : tie.Need-returns
-returns c = turned-away 12 0 (query-tables _ _ _ _ (check-failed _ _ (c .before .before .tables-fit .ensures) (c .enum-told2 .given .1)))
-
-chain-fits-requires : tie.Need-chain-fits-requires
-chain-fits-requires c κs = search needs
-
-enum-told-3 : tie.Need-enum-told-3
-enum-told-3 c = search needs
-
-enum-told-4 : tie.Need-enum-told-4
-enum-told-4 c = search needs
+returns c = answered-no (sym (c .before .before .before .before .check .ensures) ∙ ap found (c .before .before .enum-told .given .1)) (c .before .accepts .ensures .fails (not-true _ (c .if1 .taken)))
 
 returns-2 : tie.Need-returns-2
-returns-2 c = turned-away 13 0 (query-chain _ _ _ _ (check-passed _ _ (c .before .before .before .before .before .tables-fit .ensures) (c .before .before .before .enum-told .given .1)) (check-failed _ _ (c .before .before .chain-fits .ensures) (c .enum-told4 .given .1)))
-
-roles-fit-requires : tie.Need-roles-fit-requires
-roles-fit-requires c κs = tables _ _ (check-passed _ _ (c .before .before .before .before .before .tables-fit .ensures) (c .before .before .before .enum-told .given .1)) .few-heads
-
-enum-told-5 : tie.Need-enum-told-5
-enum-told-5 c = search needs
-
-enum-told-6 : tie.Need-enum-told-6
-enum-told-6 c = search needs
+returns-2 c = answered-yes (sym (c .before .before .before .before .check .ensures) ∙ ap found (c .before .before .enum-told .given .1)) (c .before .accepts .ensures .holds (not-false _ (c .if1 .left)))
 
 returns-3 : tie.Need-returns-3
-returns-3 c = turned-away 14 0 (query-role _ _ _ _ (check-passed _ _ (c .before .before .before .before .before .before .before .before .tables-fit .ensures) (c .before .before .before .before .before .before .enum-told .given .1)) (check-passed _ _ (c .before .before .before .before .before .chain-fits .ensures) (c .before .before .before .enum-told3 .given .1)) (check-failed _ _ (c .before .before .roles-fit .ensures) (c .enum-told6 .given .1)))
-
-accepts-requires : tie.Need-accepts-requires
-accepts-requires c κs = ((check-passed _ _ (c .before .before .before .before .before .before .before .before .tables-fit .ensures) (c .before .before .before .before .before .before .enum-told .given .1)), (check-passed _ _ (c .before .before .roles-fit .ensures) (c .enum-told5 .given .1)))
-
-returns-4 : tie.Need-returns-4
-returns-4 c = answered-no (query-accepted _ _ _ _ (check-passed _ _ (c .before .before .before .before .before .before .before .before .before .before .tables-fit .ensures) (c .before .before .before .before .before .before .before .before .enum-told .given .1)) (check-passed _ _ (c .before .before .before .before .before .before .before .chain-fits .ensures) (c .before .before .before .before .before .enum-told3 .given .1)) (check-passed _ _ (c .before .before .before .before .roles-fit .ensures) (c .before .before .enum-told5 .given .1))) (c .before .accepts .ensures .fails (not-true _ (c .if1 .taken)))
-
-returns-5 : tie.Need-returns-5
-returns-5 c = answered-yes (query-accepted _ _ _ _ (check-passed _ _ (c .before .before .before .before .before .before .before .before .before .before .tables-fit .ensures) (c .before .before .before .before .before .before .before .before .enum-told .given .1)) (check-passed _ _ (c .before .before .before .before .before .before .before .chain-fits .ensures) (c .before .before .before .before .before .enum-told3 .given .1)) (check-passed _ _ (c .before .before .before .before .roles-fit .ensures) (c .before .before .enum-told5 .given .1))) (c .before .accepts .ensures .holds (not-false _ (c .if1 .left)))
+returns-3 c = turned-away _ 0 (sym (c .before .before .before .check .ensures) ∙ ap found (c .before .refusal .given .1))
 
 pub ask-spec : {M : Type 1} → statement M
 ask-spec =
     tie.close
     (tie.spec
-    tables-fit-requires
+    check-requires
+    enum-known-refusal
     enum-told
-    enum-told-2
-    returns
-    chain-fits-requires
-    enum-told-3
-    enum-told-4
-    returns-2
-    roles-fit-requires
-    enum-told-5
-    enum-told-6
-    returns-3
     accepts-requires
-    returns-4
-    returns-5)
+    returns
+    returns-2
+    returns-3)

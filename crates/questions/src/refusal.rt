@@ -1,6 +1,6 @@
-// What a question is answered with, and the number that document 01 gives each refusal.
+// Why a question is refused, and the number that document 01 gives each cause.
 ghost use mathlib.Core.Path.{_≡_};
-ghost use Rattle.answerer.specs.Answer.{cause-of};
+ghost use Rattle.questions.specs.Question.{cause-of};
 
 pub enum QueryRefusal {
     // Heads or moves that are no tables: too few or too many, or a number out of range.
@@ -9,15 +9,6 @@ pub enum QueryRefusal {
     Chain,
     // The role, or a link of the chain, has a name that the tables do not know.
     Role,
-}
-
-pub enum Answer {
-    // Some path spells the chain.
-    Yes,
-    // No path does.
-    No,
-    // The question is refused; the value beside each of these causes is 0.
-    Refused(QueryRefusal),
 }
 
 // The number of the cause.

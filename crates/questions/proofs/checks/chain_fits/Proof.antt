@@ -2,8 +2,8 @@
 use mathlib.Core.Path.{refl}
 use borrow.Author.Tests.{le-leb, lt-leb}
 use lib.ListN.{length}
-use Rattle.answerer.proofs.checks.chain_fits.Statement.{statement}
-use Rattle.answerer.proofs.checks.chain_fits.Tie as tie
+use Rattle.questions.proofs.checks.chain_fits.Statement.{statement}
+use Rattle.questions.proofs.checks.chain_fits.Tie as tie
 
 returns : tie.Need-returns
 returns c = rw (lt-leb 1 (length (c .before .args .chain .now)) (c .if1 .taken)) refl

@@ -4,8 +4,8 @@ use borrow.Author.Needs.{needs}
 use Rattle.simulation.specs.Decides.{test-failed, test-passed}
 use Rattle.simulation.specs.TablesLaws.{heads-none, heads-many, heads-wrong, moves-cut, moves-many, moves-left}
 use Rattle.refusals.specs.Check.{check}
-use Rattle.answerer.proofs.checks.tables_fit.Statement.{statement}
-use Rattle.answerer.proofs.checks.tables_fit.Tie as tie
+use Rattle.questions.proofs.checks.tables_fit.Statement.{statement}
+use Rattle.questions.proofs.checks.tables_fit.Tie as tie
 
 returns : tie.Need-returns
 returns c = ap check (sym (heads-none _ _ (c .if1 .taken)))

@@ -9,8 +9,8 @@ use lib.ListN.{length, getD}
 use Rattle.format.specs.NamedLaws.{named-not}
 use Rattle.simulation.specs.QueryLaws.{named-so}
 use Rattle.refusals.specs.Check.{check}
-use Rattle.answerer.proofs.checks.roles_fit.Statement.{statement}
-use Rattle.answerer.proofs.checks.roles_fit.Tie as tie
+use Rattle.questions.proofs.checks.roles_fit.Statement.{statement}
+use Rattle.questions.proofs.checks.roles_fit.Tie as tie
 
 abbrev Inv-loop : tie.InvT-loop
 Inv-loop names role chain i₀ i = (i ≤ length chain) × ((k : ℕ) → k < i → getD chain k 0 < 2 * names)

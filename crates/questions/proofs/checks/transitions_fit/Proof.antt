@@ -6,8 +6,8 @@ use borrow.Author.Needs.{needs}
 use lib.ListN.{length}
 use Rattle.queries.specs.Query.{transitions-in, transitions-fit}
 use Rattle.simulation.specs.TablesLaws.{fit-from, moves-next, moves-end, from-not, label-not, to-not}
-use Rattle.answerer.proofs.checks.transitions_fit.Statement.{statement}
-use Rattle.answerer.proofs.checks.transitions_fit.Tie as tie
+use Rattle.questions.proofs.checks.transitions_fit.Statement.{statement}
+use Rattle.questions.proofs.checks.transitions_fit.Tie as tie
 
 abbrev Inv-loop : tie.InvT-loop
 Inv-loop moves i₀ i = (i ≤ length moves) × (fit-from moves i ≡ transitions-fit (transitions-in moves))

@@ -6,8 +6,8 @@ use borrow.Author.Needs.{needs}
 use lib.ListN.{length, drop}
 use Rattle.queries.specs.Query.{heads-fit}
 use Rattle.simulation.specs.TablesLaws.{heads-next, heads-not, heads-end}
-use Rattle.answerer.proofs.checks.heads_fit.Statement.{statement}
-use Rattle.answerer.proofs.checks.heads_fit.Tie as tie
+use Rattle.questions.proofs.checks.heads_fit.Statement.{statement}
+use Rattle.questions.proofs.checks.heads_fit.Tie as tie
 
 abbrev Inv-loop : tie.InvT-loop
 Inv-loop heads i₀ i = (i ≤ length heads) × (heads-fit (drop i heads) ≡ heads-fit heads)
