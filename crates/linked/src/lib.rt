@@ -1,0 +1,1 @@
+// Lists that run through one array, by key: definitions and laws, no code.
