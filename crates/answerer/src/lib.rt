@@ -1,12 +1,14 @@
 // Answers a question put to tables: whether they accept a chain for a role, or the first cause of document 01, 12 to 14, that refuses
 // the question.
 ghost use mathlib.Core.Bool.{true};
-ghost use mathlib.Core.List.{_∷_};
 ghost use mathlib.Core.Path.{_≡_};
+ghost use Prim.Native.Nat.{_+_, _<_, _≤_};
 ghost use lib.ListN.{length};
-ghost use Rattle.format.specs.Format.{named};
-ghost use Rattle.queries.specs.Query.{tables-fit, Accepts, Answered};
+ghost use Rattle.format.specs.Result.Result.{accepted};
+ghost use Rattle.queries.specs.Query.{query, asked, Accepts, Answered};
 ghost use Rattle.simulation.specs.Decides.{Decides};
+ghost use Rattle.simulation.specs.Transitions.{Fit};
+ghost use Rattle.simulation.specs.Reading.{Letters, Leads};
 ghost use Rattle.answerer.specs.Answer.{says};
 
 mod index;
@@ -33,25 +35,89 @@ pub enum Answer {
 pub fn ask(heads: &[u16], moves: &[u16], role: u8, chain: &[u8]) -> Answer
     ensures { λ r. ⌜ Answered (now (heads .entry)) (now (moves .entry)) role (now (chain .entry)) (says r) ⌝ }
 {
-    let Question::Refused(refusal) = questions::check(heads, moves, role, chain) else {
-        if !accepts(heads, moves, role, chain) {
-            return Answer::No;
+    let question = questions::check(heads, moves, role, chain);
+    match question {
+        Question::Refused(refusal) => Answer::Refused(refusal),
+        Question::Fits => {
+            if !accepts(heads, moves, role, chain) {
+                return Answer::No;
+            }
+            Answer::Yes
         }
-        return Answer::Yes;
-    };
-    Answer::Refused(refusal)
+    }
 }
 
 // Whether a path from the name's initial state to its final one spells the chain, or its inverse for the inverse of a name.
 fn accepts(heads: &[u16], moves: &[u16], role: u8, chain: &[u8]) -> bool
-    requires { ⌜ tables-fit (now heads) (now moves) ≡ true ⌝ }
-    requires { ⌜ named (length (now heads)) (role ∷ now chain) ≡ true ⌝ }
+    requires { ⌜ query (now heads) (now moves) role (now chain) ≡ accepted tt ⌝ }
     ensures { λ r. ⌜ Decides r (Accepts (now (heads .entry)) (now (moves .entry)) role (now (chain .entry))) ⌝ }
 {
-    let mut index: [u16; 7168] = [0; 7168];
-    let mut states: [u16; 4096] = [0; 4096];
-    let mut others: [u16; 4096] = [0; 4096];
     let head = heads[name(role) as usize] as usize;
-    fill_index(moves, &mut index);
-    run(moves, &index, role, chain, head, &mut states, &mut others)
+    if head < 63 && moves.len() <= 576 && within(moves, 64) {
+        return accepts_few(moves, role, chain, head);
+    }
+    accepts_many(moves, role, chain, head)
+}
+
+// Whether all states of the transitions are below some room.
+fn within(moves: &[u16], room: u16) -> bool
+    ensures { λ r. ⌜ (r ≡ true → Fit room (now (moves .entry))) ⌝ }
+{
+    let count = moves.len() / 3;
+    let mut k = 0;
+    while k < count {
+        if room <= moves[3 * k] {
+            return false;
+        }
+        if room <= moves[3 * k + 2] {
+            return false;
+        }
+        k += 1;
+    }
+    true
+}
+
+// Small tables are read in small arrays, which take less time to clear.
+fn accepts_few(moves: &[u16], role: u8, chain: &[u8], head: usize) -> bool
+    requires { ⌜ (length (now moves) ≤ 576) × Fit 64 (now moves) ⌝ }
+    requires { ⌜ Letters (now chain) ⌝ }
+    requires { ⌜ head < 63 ⌝ }
+    ensures { λ r. ⌜ Decides r (Leads (now (moves .entry)) head (asked role (now (chain .entry))) (head + 1)) ⌝ }
+{
+    let mut index = [0u16; 320];
+    let mut states = [0u16; 128];
+    let mut others = [0u16; 128];
+    fill_index(moves, 64, &mut index);
+    run(
+        moves,
+        &index,
+        64,
+        role,
+        chain,
+        head,
+        &mut states,
+        &mut others,
+    )
+}
+
+fn accepts_many(moves: &[u16], role: u8, chain: &[u8], head: usize) -> bool
+    requires { ⌜ (length (now moves) ≤ 15360) × Fit 2048 (now moves) ⌝ }
+    requires { ⌜ Letters (now chain) ⌝ }
+    requires { ⌜ head ≤ 2046 ⌝ }
+    ensures { λ r. ⌜ Decides r (Leads (now (moves .entry)) head (asked role (now (chain .entry))) (head + 1)) ⌝ }
+{
+    let mut index = [0u16; 9216];
+    let mut states = [0u16; 4096];
+    let mut others = [0u16; 4096];
+    fill_index(moves, 2048, &mut index);
+    run(
+        moves,
+        &index,
+        2048,
+        role,
+        chain,
+        head,
+        &mut states,
+        &mut others,
+    )
 }

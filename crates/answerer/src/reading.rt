@@ -1,56 +1,79 @@
 // Reads a chain link by link with sets of states: only the active states and their transitions are visited.
 ghost use mathlib.Core.Path.{_≡_};
-ghost use Prim.Native.Nat.{ℕ, _+_, _<_, _≤_};
+ghost use Prim.Native.Nat.{_+_, _<_};
 ghost use lib.ListN.{length, getD};
 ghost use Rattle.queries.specs.Query.{asked};
 ghost use Rattle.simulation.specs.Decides.{Decides};
-ghost use Rattle.simulation.specs.States.{States};
+ghost use Rattle.simulation.specs.States.{Members, States, Unused};
 ghost use Rattle.simulation.specs.Transitions.{transition-count};
 ghost use Rattle.simulation.specs.Index.{Indexed, Spread};
-ghost use Rattle.simulation.specs.Reading.{Leads, Closed, Closing, Stepped};
+ghost use Rattle.simulation.specs.Reading.{Letters, Leads, Closed, Closing, Stepped};
+use crate::index::slot;
 use crate::states::contains;
 use crate::states::put;
 use role_bytes::inverse;
 use role_bytes::is_inverse;
 
-// Whether a path from the state `head` to the next one spells the chain, or its inverse if the role is the inverse of a name.
+// Whether a path from the state `head` to the next one spells the chain, or its inverse if the role is the inverse of a name. The set after
+// i links has the stamp i + 1; the links go to and fro between the two sets.
 pub(crate) fn run(
     moves: &[u16],
     index: &[u16],
+    room: usize,
     role: u8,
     chain: &[u8],
     head: usize,
     states: &mut [u16],
     others: &mut [u16],
 ) -> bool
-    requires { ⌜ Indexed (now moves) (now index) (transition-count (now moves)) ⌝ }
-    requires { ⌜ ((k : ℕ) → k < length (now chain) → getD (now chain) k 0 < 128) ⌝ }
-    requires { ⌜ head ≤ 2046 ⌝ }
-    requires { ⌜ length (now states) ≡ 4096 ⌝ }
-    requires { ⌜ length (now others) ≡ 4096 ⌝ }
+    requires { ⌜ Indexed room (now moves) (now index) (transition-count (now moves)) ⌝ }
+    requires { ⌜ Letters (now chain) ⌝ }
+    requires { ⌜ head + 1 < room ⌝ }
+    requires { ⌜ Unused room 1 (now states) ⌝ }
+    requires { ⌜ Unused room 1 (now others) ⌝ }
     ensures { λ r. ⌜ Decides r (Leads (now (moves .entry)) head (asked role (now (chain .entry))) (head + 1)) ⌝ }
 {
     let size = chain.len();
-    let started = put(states, 0, head);
-    let mut count = close(moves, index, states, started);
+    let started = put(states, room, 1, 0, head);
+    let mut count = close(moves, index, room, states, 1, started);
     let mut i = 0;
     while i + 1 < size {
-        let found = step(moves, index, link(role, chain, i), states, count, others);
+        let found = step(
+            moves,
+            index,
+            room,
+            link(role, chain, i),
+            states,
+            count,
+            others,
+            (i + 2) as u16,
+        );
         count = step(
             moves,
             index,
+            room,
             link(role, chain, i + 1),
             others,
             found,
             states,
+            (i + 3) as u16,
         );
         i += 2;
     }
     if i < size {
-        let found = step(moves, index, link(role, chain, i), states, count, others);
-        return contains(others, found, head + 1);
+        step(
+            moves,
+            index,
+            room,
+            link(role, chain, i),
+            states,
+            count,
+            others,
+            (i + 2) as u16,
+        );
+        return contains(others, room, (i + 2) as u16, head + 1);
     }
-    contains(states, count, head + 1)
+    contains(states, room, (i + 1) as u16, head + 1)
 }
 
 // Link i of the chain, or of its inverse if the role is the inverse of a name.
@@ -68,38 +91,48 @@ fn link(role: u8, chain: &[u8], i: usize) -> u8
 fn step(
     moves: &[u16],
     index: &[u16],
+    room: usize,
     label: u8,
     states: &[u16],
     count: usize,
     others: &mut [u16],
+    stamp: u16,
 ) -> usize
-    requires { ⌜ Indexed (now moves) (now index) (transition-count (now moves)) ⌝ }
+    requires { ⌜ Indexed room (now moves) (now index) (transition-count (now moves)) ⌝ }
     requires { ⌜ label < 128 ⌝ }
-    requires { ⌜ States (now states) count ⌝ }
+    requires { ⌜ Members room (now states) count ⌝ }
     requires { ⌜ Closed (now moves) count (now states) count ⌝ }
-    requires { ⌜ length (now others) ≡ 4096 ⌝ }
-    ensures { λ r. ⌜ Stepped (now (moves .entry)) label (now (states .entry)) count (now (others .exit)) r ⌝ }
+    requires { ⌜ Unused room stamp (now others) ⌝ }
+    ensures { λ r. ⌜ Stepped (now (moves .entry)) room stamp label (now (states .entry)) count (now (others .exit)) r ⌝ }
 {
     let mut found = 0;
     let mut i = 0;
     while i < count {
-        found = spread(moves, index, states[i] as usize, label, others, found);
+        let from = states[i] as usize;
+        found = spread(moves, index, room, from, label, others, stamp, found);
         i += 1;
     }
-    close(moves, index, others, found)
+    close(moves, index, room, others, stamp, found)
 }
 
 // Adds to a set what its members reach silently, walking along them while they grow; returns its count.
-fn close(moves: &[u16], index: &[u16], states: &mut [u16], count: usize) -> usize
-    requires { ⌜ Indexed (now moves) (now index) (transition-count (now moves)) ⌝ }
-    requires { ⌜ States (now states) count ⌝ }
-    ensures { λ r. ⌜ Closing (now (moves .entry)) r (now (states .entry)) count (now (states .exit)) r ⌝ }
+fn close(
+    moves: &[u16],
+    index: &[u16],
+    room: usize,
+    states: &mut [u16],
+    stamp: u16,
+    count: usize,
+) -> usize
+    requires { ⌜ Indexed room (now moves) (now index) (transition-count (now moves)) ⌝ }
+    requires { ⌜ States room stamp (now states) count ⌝ }
+    ensures { λ r. ⌜ Closing (now (moves .entry)) room stamp r (now (states .entry)) count (now (states .exit)) r ⌝ }
 {
     let mut all = count;
     let mut i = 0;
     while i < all {
         let from = states[i] as usize;
-        all = spread(moves, index, from, 128, states, all);
+        all = spread(moves, index, room, from, 128, states, stamp, all);
         i += 1;
     }
     all
@@ -109,24 +142,26 @@ fn close(moves: &[u16], index: &[u16], states: &mut [u16], count: usize) -> usiz
 fn spread(
     moves: &[u16],
     index: &[u16],
+    room: usize,
     from: usize,
     label: u8,
     states: &mut [u16],
+    stamp: u16,
     count: usize,
 ) -> usize
-    requires { ⌜ Indexed (now moves) (now index) (transition-count (now moves)) ⌝ }
-    requires { ⌜ from < 2048 ⌝ }
-    requires { ⌜ States (now states) count ⌝ }
-    ensures { λ r. ⌜ Spread (now (moves .entry)) from label 0 (now (states .entry)) count (now (states .exit)) r ⌝ }
+    requires { ⌜ Indexed room (now moves) (now index) (transition-count (now moves)) ⌝ }
+    requires { ⌜ from < room ⌝ }
+    requires { ⌜ States room stamp (now states) count ⌝ }
+    ensures { λ r. ⌜ Spread room stamp (now (moves .entry)) from label 0 (now (states .entry)) count (now (states .exit)) r ⌝ }
 {
     let mut all = count;
-    let mut at = index[from] as usize;
+    let mut at = index[slot(room, from, label as u16)] as usize;
     while 0 < at {
         let k = at - 1;
         if moves[3 * k + 1] == label as u16 {
-            all = put(states, all, moves[3 * k + 2] as usize);
+            all = put(states, room, stamp, all, moves[3 * k + 2] as usize);
         }
-        at = index[2048 + k] as usize;
+        at = index[2 * room + k] as usize;
     }
     all
 }

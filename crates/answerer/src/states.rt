@@ -1,35 +1,30 @@
-// A set of states below 2,048, as a sparse set: its members stand first, as many as its count says, and 2,048 + q holds the place of
-// a member q. A set of count 0 is empty, whatever stands in it.
-ghost use Prim.Native.Nat.{_<_};
+// A set of states below some room: its members stand first, as many as its count says, and room + q holds the set's stamp where q is a
+// member, and an older one where it is not. A new stamp empties the set, whatever stands in it.
+ghost use mathlib.Core.Path.{_≡_};
+ghost use Prim.Native.Nat.{ℕ, _*_, _<_, _≤_};
+ghost use lib.ListN.{length};
 ghost use Rattle.simulation.specs.Decides.{Decides};
 ghost use Rattle.simulation.specs.States.{States, Member, Put};
 
 // Whether a state is in the set.
-pub(crate) fn contains(states: &[u16], count: usize, state: usize) -> bool
-    requires { ⌜ States (now states) count ⌝ }
-    requires { ⌜ state < 2048 ⌝ }
-    ensures { λ r. ⌜ Decides r (Member (now (states .entry)) count state) ⌝ }
+pub(crate) fn contains(states: &[u16], room: usize, stamp: u16, state: usize) -> bool
+    requires { ⌜ (room ≤ 2048) × (length (now states) ≡ 2 * room) × (state < room) ⌝ }
+    ensures { λ r. ⌜ ((count : ℕ) → States room stamp (now (states .entry)) count → Decides r (Member (now (states .entry)) count state)) ⌝ }
 {
-    let place = states[2048 + state] as usize;
-    if count <= place {
-        return false;
-    }
-    if states[place] as usize != state {
-        return false;
-    }
-    true
+    states[room + state] == stamp
 }
 
 // Puts a state into the set if it is not in; returns the count.
-pub(crate) fn put(states: &mut [u16], count: usize, state: usize) -> usize
-    requires { ⌜ States (now states) count ⌝ }
-    requires { ⌜ state < 2048 ⌝ }
-    ensures { λ r. ⌜ Put state (now (states .entry)) count (now (states .exit)) r ⌝ }
+pub(crate) fn put(states: &mut [u16], room: usize, stamp: u16, count: usize, state: usize) -> usize
+    requires { ⌜ room ≤ 2048 ⌝ }
+    requires { ⌜ States room stamp (now states) count ⌝ }
+    requires { ⌜ state < room ⌝ }
+    ensures { λ r. ⌜ Put room stamp state (now (states .entry)) count (now (states .exit)) r ⌝ }
 {
-    if contains(states, count, state) {
+    if states[room + state] == stamp {
         return count;
     }
     states[count] = state as u16;
-    states[2048 + state] = count as u16;
+    states[room + state] = stamp;
     count + 1
 }

@@ -43,14 +43,14 @@ module _ (r : ℕ) (w : Chain) where
         by-test (inr t) = rw (← asked-name t) (h i l)
 
     -- one more link is read
-    pub read-link : (moves : List ℕ) (p : ℕ) (s : List ℕ) (count : ℕ) (t : List ℕ) (more a : ℕ) → Read moves p (asked r w) i s count
-        → a ≡ getD (asked r w) i 0 → Stepped moves a s count t more → Read moves p (asked r w) (i + 1) t more
-    read-link moves p s count t more a so-far e step =
-        read-more moves p (asked r w) i s count t more so-far (rw length-asked l) (rw e at step)
+    pub read-link : (moves : List ℕ) (room old stamp p : ℕ) (s : List ℕ) (count : ℕ) (t : List ℕ) (more a : ℕ) → Read moves room old p (asked r w) i s count
+        → a ≡ getD (asked r w) i 0 → Stepped moves room stamp a s count t more → Read moves room stamp p (asked r w) (i + 1) t more
+    read-link moves room old stamp p s count t more a so-far e step =
+        read-more moves room stamp p (asked r w) old i s count t more so-far (rw length-asked l) (rw e at step)
 
   -- every link is read
-  pub read-asked : (moves : List ℕ) (p i : ℕ) (s : List ℕ) (count u : ℕ) (b : Bool) → Read moves p (asked r w) i s count → i ≡ length w
+  pub read-asked : (moves : List ℕ) (room stamp p i : ℕ) (s : List ℕ) (count u : ℕ) (b : Bool) → Read moves room stamp p (asked r w) i s count → i ≡ length w
       → Decides b (Member s count u) → Decides b (Leads moves p (asked r w) u)
-  read-asked moves p i s count u b all e d =
+  read-asked moves room stamp p i s count u b all e d =
       let f : i ≡ length (asked r w) = rw length-asked e in
-      read-decides moves p (asked r w) s count (rw f at all) u b d
+      read-decides moves room stamp p (asked r w) s count (rw f at all) u b d

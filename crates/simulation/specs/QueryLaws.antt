@@ -10,7 +10,12 @@ use Rattle.format.specs.Result.Result.{refused, accepted}
 use Rattle.format.specs.ResultLaws.{demand-test, demand-rest}
 use Rattle.format.specs.Format.{named}
 use Rattle.format.specs.NamedLaws.{named-all, named-link}
+use borrow.Author.Tests.{leb-true}
+use lib.Dec.{leb}
+use Rattle.roles.specs.Tests.{and-right}
 use Rattle.queries.specs.Query.{tables-fit, chain-fits, query}
+use Rattle.simulation.specs.Reading.{Letters}
+use Rattle.simulation.specs.TablesLaws.{Tables, tables}
 
 -- the first refusal met
 module _ (heads moves : List ℕ) (r : ℕ) (w : Chain) where
@@ -34,23 +39,27 @@ module _ (heads moves : List ℕ) (r : ℕ) (w : Chain) where
 
   -- what a question that is not refused has passed
   module _ (passed : query heads moves r w ≡ accepted tt) where
-    pub passed-tables : tables-fit heads moves ≡ true
+    passed-tables : tables-fit heads moves ≡ true
     unfolding query
     passed-tables = demand-test (tables-fit heads moves) 12 0 _ tt passed
 
-    pub passed-roles : named (length heads) (r ∷ w) ≡ true
+    passed-roles : named (length heads) (r ∷ w) ≡ true
     unfolding query
     passed-roles =
         demand-test (named (length heads) (r ∷ w)) 14 0 _ tt
         (demand-rest (chain-fits w) 13 0 _ tt (demand-rest (tables-fit heads moves) 12 0 _ tt passed))
 
+    passed-chain : chain-fits w ≡ true
+    unfolding query
+    passed-chain = demand-test (chain-fits w) 13 0 _ tt (demand-rest (tables-fit heads moves) 12 0 _ tt passed)
+
 -- the roles that are named
 module _ (n r : ℕ) (w : Chain) where
-  pub role-named : named n (r ∷ w) ≡ true → name r < n
+  role-named : named n (r ∷ w) ≡ true → name r < n
   unfolding name
   role-named h = omega (arith, named-link n (r ∷ w) h 0 (omega arith))
 
-  pub link-named : n ≤ 64 → named n (r ∷ w) ≡ true → (k : ℕ) → k < length w → getD w k 0 < 128
+  link-named : n ≤ 64 → named n (r ∷ w) ≡ true → (k : ℕ) → k < length w → getD w k 0 < 128
   link-named few h k l = omega (arith, named-link n (r ∷ w) h (suc k) (omega arith))
 
   pub named-so : r < 2 * n → ((k : ℕ) → k < length w → getD w k 0 < 2 * n) → named n (r ∷ w) ≡ true
@@ -59,3 +68,18 @@ module _ (n r : ℕ) (w : Chain) where
       by-place : (i : ℕ) → i < suc (length w) → getD (r ∷ w) i 0 < 2 * n
       by-place zero l = h
       by-place (suc i) l = k i (omega arith)
+
+-- a question that is not refused has tables that fit, a name and letters
+module _ (heads moves : List ℕ) (r : ℕ) (w : Chain) (passed : query heads moves r w ≡ accepted tt) where
+  pub fitting : Tables heads moves
+  fitting = tables heads moves (passed-tables heads moves r w passed)
+
+  pub named-role : name r < length heads
+  named-role = role-named (length heads) r w (passed-roles heads moves r w passed)
+
+  pub letters : Letters w
+  letters =
+      record {
+        few = leb-true (length w) 1024 (and-right (leb 1 (length w)) (leb (length w) 1024) (passed-chain heads moves r w passed));
+        small = link-named (length heads) r w (fitting .few-heads) (passed-roles heads moves r w passed);
+      }

@@ -15,20 +15,20 @@ use Rattle.tables.specs.Path.{Path}
 use Rattle.tables.specs.Path.Path.{stop, skip, read}
 use Rattle.queries.specs.Query.{transitions-in}
 use Rattle.simulation.specs.Decides.{Decides}
-use Rattle.simulation.specs.States.{States, Member, Put}
+use Rattle.simulation.specs.States.{States, Unused, Member, Put}
 use Rattle.simulation.specs.StatesLaws.{states-none, added-none, added-on, added-as, still-member}
 use Rattle.simulation.specs.Transitions.{Arrow}
 use Rattle.simulation.specs.Index.{Spread}
 use Rattle.simulation.specs.IndexLaws.{spread-all}
 use Rattle.simulation.specs.Reading.{Leads, Reaches, Closed, Closing, Gathered, Stepped, Read}
 
-module _ (moves : List ℕ) where
+module _ (moves : List ℕ) (room stamp : ℕ) where
   -- closing: nothing is done; one more member is done
   module _ (s : List ℕ) (count : ℕ) where
-    pub closing-start : States s count → Closing moves 0 s count s count
-    closing-start good = record { added = added-none s count good _; closed = λ i l. absurd (omega arith) }
+    pub closing-start : States room stamp s count → Closing moves room stamp 0 s count s count
+    closing-start good = record { added = added-none room stamp s count good _; closed = λ i l. absurd (omega arith) }
 
-    module _ (n : ℕ) (t : List ℕ) (more : ℕ) (so-far : Closing moves n s count t more) (inside : n < more) where
+    module _ (n : ℕ) (t : List ℕ) (more : ℕ) (so-far : Closing moves room stamp n s count t more) (inside : n < more) where
       -- a path from the member n is one from a member of s
       from-member : (w : Chain) (u : ℕ) → Leads moves (getD t n 0) w u → Reaches moves s count w u
       from-member w u path = by-place (lt-or-le n count)
@@ -37,25 +37,25 @@ module _ (moves : List ℕ) where
           by-place (inl l) = record { place = n; inside = l; path = rw (so-far .added .kept n l) at path }
           by-place (inr l) = so-far .added .came n l inside w u path
 
-      pub closing-more : (v : List ℕ) (all : ℕ) → Spread moves (getD t n 0) epsilon 0 t more v all → Closing moves (n + 1) s count v all
+      pub closing-more : (v : List ℕ) (all : ℕ) → Spread room stamp moves (getD t n 0) epsilon 0 t more v all → Closing moves room stamp (n + 1) s count v all
       closing-more v all spread =
           record {
             added =
-                added-on s count t more v all _ (so-far .added)
-                (added-as t more v all _ _ (λ q m w u path. from-member w u (skip m path)) (spread .added));
+                added-on room stamp s count t more v all _ (so-far .added)
+                (added-as room stamp t more v all _ _ (λ q m w u path. from-member w u (skip m path)) (spread .added));
             closed = λ i l q m. by-place i l q m (lt-or-le i n);
           }
         where
           by-place : (i : ℕ) → i < n + 1 → (q : ℕ) → Arrow moves (getD v i 0) epsilon q → (i < n) ⊎ (n ≤ i) → Member v all q
           by-place i l q m (inl k) =
-              still-member t more v all _ q (spread .added)
+              still-member room stamp t more v all _ q (spread .added)
               (so-far .closed i k q (rw (spread .added .kept i (omega arith)) at m))
           by-place i l q m (inr k) =
               let e : i ≡ n = omega arith in
-              spread-all moves (getD t n 0) epsilon t more v all spread q (rw (e, spread .added .kept n inside) at m)
+              spread-all room stamp moves (getD t n 0) epsilon t more v all spread q (rw (e, spread .added .kept n inside) at m)
 
     -- what is closed reaches what was reached before
-    module _ (n : ℕ) (t : List ℕ) (more : ℕ) (all : Closing moves n s count t more) where
+    module _ (n : ℕ) (t : List ℕ) (more : ℕ) (all : Closing moves room stamp n s count t more) where
       closing-forth : (w : Chain) (u : ℕ) → Reaches moves s count w u → Reaches moves t more w u
       closing-forth w u r =
           record {
@@ -73,27 +73,27 @@ module _ (moves : List ℕ) where
 
   -- gathering: nothing is done; one more member is done
   module _ (a : ℕ) (s : List ℕ) (count : ℕ) (o : List ℕ) where
-    pub gathered-start : length o ≡ 4096 → Gathered moves a 0 s count o o 0
-    gathered-start size = record { added = added-none o 0 (states-none o size) _; there = λ i l. absurd (omega arith) }
+    pub gathered-start : Unused room stamp o → Gathered moves room stamp a 0 s count o o 0
+    gathered-start unused = record { added = added-none room stamp o 0 (states-none room stamp o unused) _; there = λ i l. absurd (omega arith) }
 
-    pub gathered-more : (n : ℕ) (t : List ℕ) (more : ℕ) → Gathered moves a n s count o t more → n < count → (v : List ℕ) (all : ℕ)
-        → Spread moves (getD s n 0) a 0 t more v all → Gathered moves a (n + 1) s count o v all
+    pub gathered-more : (n : ℕ) (t : List ℕ) (more : ℕ) → Gathered moves room stamp a n s count o t more → n < count → (v : List ℕ) (all : ℕ)
+        → Spread room stamp moves (getD s n 0) a 0 t more v all → Gathered moves room stamp a (n + 1) s count o v all
     gathered-more n t more so-far inside v all spread =
         record {
           added =
-              added-on o 0 t more v all _ (so-far .added)
-              (added-as t more v all _ _ (λ q m. (n, inside, m)) (spread .added));
+              added-on room stamp o 0 t more v all _ (so-far .added)
+              (added-as room stamp t more v all _ _ (λ q m. (n, inside, m)) (spread .added));
           there = λ i l q m. by-place i l q m (lt-or-le i n);
         }
       where
         by-place : (i : ℕ) → i < n + 1 → (q : ℕ) → Arrow moves (getD s i 0) a q → (i < n) ⊎ (n ≤ i) → Member v all q
-        by-place i l q m (inl k) = still-member t more v all _ q (spread .added) (so-far .there i k q m)
+        by-place i l q m (inl k) = still-member room stamp t more v all _ q (spread .added) (so-far .there i k q m)
         by-place i l q m (inr k) =
             let e : i ≡ n = omega arith in
-            spread-all moves (getD s n 0) a t more v all spread q (rw e at m)
+            spread-all room stamp moves (getD s n 0) a t more v all spread q (rw e at m)
 
     -- a letter is read: what is gathered, then closed
-    module _ (t : List ℕ) (more : ℕ) (gathered : Gathered moves a count s count o t more) where
+    module _ (t : List ℕ) (more : ℕ) (gathered : Gathered moves room stamp a count s count o t more) where
       -- a path along a letter and more, from a member of a closed set
       along : Closed moves count s count → (w v : Chain) (p u : ℕ) → Member s count p → v ≡ a ∷ w → Path (transitions-in moves) p v u
           → Reaches moves t more w u
@@ -106,8 +106,8 @@ module _ (moves : List ℕ) where
           let there : Member t more q = gathered .there (m .place) (m .inside) q (rw (m .here, ← same) x) in
           record { place = there .place; inside = there .inside; path = rw (there .here, ← left) path }
 
-      pub stepped : a < epsilon → Closed moves count s count → (v : List ℕ) (all : ℕ) → Closing moves all t more v all
-          → Stepped moves a s count v all
+      pub stepped : a < epsilon → Closed moves count s count → (v : List ℕ) (all : ℕ) → Closing moves room stamp all t more v all
+          → Stepped moves room stamp a s count v all
       stepped letter closed v all closing =
           record {
             good = closing .added .good;
@@ -125,7 +125,7 @@ module _ (moves : List ℕ) where
 
   -- reading a word from a state on
   module _ (p : ℕ) (w : Chain) where
-    pub read-start : (s t : List ℕ) (more : ℕ) → Put p s 0 t more → (v : List ℕ) (all : ℕ) → Closing moves all t more v all → Read moves p w 0 v all
+    pub read-start : (s t : List ℕ) (more : ℕ) → Put room stamp p s 0 t more → (v : List ℕ) (all : ℕ) → Closing moves room stamp all t more v all → Read moves room stamp p w 0 v all
     read-start s t more put v all closing =
         record {
           good = closing .added .good;
@@ -139,9 +139,9 @@ module _ (moves : List ℕ) where
         only : (u : ℕ) → Reaches moves t more w u → Leads moves p w u
         only u r = rw (put .added .came (r .place) (omega arith) (r .inside)) at (r .path)
 
-    pub read-more : (i : ℕ) (s : List ℕ) (count : ℕ) (t : List ℕ) (more : ℕ) → Read moves p w i s count → i < length w
-        → Stepped moves (getD w i 0) s count t more → Read moves p w (i + 1) t more
-    read-more i s count t more so-far l step =
+    pub read-more : (old i : ℕ) (s : List ℕ) (count : ℕ) (t : List ℕ) (more : ℕ) → Read moves room old p w i s count → i < length w
+        → Stepped moves room stamp (getD w i 0) s count t more → Read moves room stamp p w (i + 1) t more
+    read-more old i s count t more so-far l step =
         record {
           good = step .good;
           closed = step .closed;
@@ -150,7 +150,7 @@ module _ (moves : List ℕ) where
         }
 
     -- at the end the members are the states that the word leads to
-    module _ (s : List ℕ) (count : ℕ) (all : Read moves p w (length w) s count) where
+    module _ (s : List ℕ) (count : ℕ) (all : Read moves room stamp p w (length w) s count) where
       at-end : (v : Chain) (q u : ℕ) → Member s count q → v ≡ [] → Path (transitions-in moves) q v u → Member s count u
       at-end v q u m e stop = m
       at-end v q u m e (skip {q = r} x path) = at-end v r u (all .closed (m .place) (m .inside) r (rw (m .here) x)) e path

@@ -134,7 +134,8 @@ module _ (heads moves : List ℕ) where
 pub record Tables (heads moves : List ℕ) : Type 0 where
   pub few-heads : length heads ≤ 64
   pub small-heads : (i : ℕ) → i < length heads → getD heads i 0 ≤ 2046
-  pub fit : Fit moves
+  pub few : length moves ≤ 15360
+  pub fit : Fit 2048 moves
 
 pub tables : (heads moves : List ℕ) → tables-fit heads moves ≡ true → Tables heads moves
 unfolding tables-fit
@@ -151,9 +152,9 @@ tables heads moves h =
     record {
       few-heads = leb-true (length heads) 64 few;
       small-heads = head-fits heads fits;
+      few = leb-true (length moves) 15360 short;
       fit =
           record {
-            few = leb-true (length moves) 15360 short;
             from-fits = λ k l. small k l .from-small;
             to-fits = λ k l. small k l .to-small;
           };

@@ -1,6 +1,6 @@
 -- The transitions that numbers spell, three for each, by their number.
 use mathlib.Core.List.{List, List·Memᴰ}
-use Prim.Native.Nat.{ℕ, _+_, _*_, _/_, _<_, _≤_}
+use Prim.Native.Nat.{ℕ, _+_, _*_, _/_, _<_}
 use lib.ListN.{length, getD}
 use Rattle.tables.specs.Tables.{Transition}
 use Rattle.queries.specs.Query.{transitions-in}
@@ -25,8 +25,7 @@ arrow p a q = record { from = p; label = a; to = q }
 abbrev pub Arrow : List ℕ → (p a q : ℕ) → Type 0
 Arrow moves p a q = List·Memᴰ (arrow p a q) (transitions-in moves)
 
--- at most 5,120 transitions, between states below 2,048
-pub record Fit (moves : List ℕ) : Type 0 where
-  pub few : length moves ≤ 15360
-  pub from-fits : (k : ℕ) → k < transition-count moves → from-at moves k < 2048
-  pub to-fits : (k : ℕ) → k < transition-count moves → to-at moves k < 2048
+-- between states below some room
+pub record Fit (room : ℕ) (moves : List ℕ) : Type 0 where
+  pub from-fits : (k : ℕ) → k < transition-count moves → from-at moves k < room
+  pub to-fits : (k : ℕ) → k < transition-count moves → to-at moves k < room

@@ -1,10 +1,8 @@
--- `accepts` meets its contract: tables that fit are indexed, the name has an initial state, and `run` decides the rest.
-use mathlib.Core.Path.{refl}
+-- `accepts` meets its contract: small tables are those whose states are all below 64.
+use borrow.Author.Tests.{leb-true}
 use native.Mathlib.Omega.{arith}
+use Rattle.simulation.specs.QueryLaws.{fitting, named-role, letters}
 use borrow.Author.Needs.{needs}
-use lib.ListN.{getD-replicate}
-use Rattle.simulation.specs.QueryLaws.{role-named, link-named}
-use Rattle.simulation.specs.TablesLaws.{tables}
 use Rattle.answerer.proofs.accepts.Statement.{statement}
 use Rattle.answerer.proofs.accepts.Tie as tie
 
@@ -18,32 +16,25 @@ mul-head : tie.Need-mul-head
 mul-head c = search needs
 
 shared-slice-read-head : tie.Need-shared-slice-read-head
-shared-slice-read-head c = rw (c .before .name .ensures) (role-named _ _ _ (c .before .before .before .before .before .pre .1))
+shared-slice-read-head c = rw (c .before .name .ensures) (named-role _ _ _ _ (c .before .before .before .before .before .pre))
 
 cast-head-2 : tie.Need-cast-head-2
 cast-head-2 c = omega (arith, (c .shared-slice-known4 .given) (c .before .name .result))
 
-slice-aggregate-fill-index : tie.Need-slice-aggregate-fill-index
-slice-aggregate-fill-index c = search needs
+within-requires : tie.Need-within-requires
+within-requires c κs = search needs
 
-fill-index-requires : tie.Need-fill-index-requires
-fill-index-requires c κs = (tables _ _ (c .before .before .before .before .before .before .pre .0) .fit, (refl, λ p l. getD-replicate 7168 p 0 0 (omega arith)))
-
-slice-aggregate-run : tie.Need-slice-aggregate-run
-slice-aggregate-run c = search needs
-
-slice-aggregate-run-2 : tie.Need-slice-aggregate-run-2
-slice-aggregate-run-2 c = search needs
-
-slice-aggregate-run-3 : tie.Need-slice-aggregate-run-3
-slice-aggregate-run-3 c = search needs
-
-run-requires : tie.Need-run-requires
-run-requires c κs = let t = tables _ _ (c .before .before .before .before .before .before .before .before .before .before .before .pre .0) in
-    (c .before .before .before .before .fill-index .ensures, (link-named _ _ _ (t .few-heads) (c .before .before .before .before .before .before .before .before .before .before .before .pre .1), (t .small-heads (c .before .before .before .before .before .before .before .name .result) (rw (c .before .before .before .before .before .before .before .name .ensures) (role-named _ _ _ (c .before .before .before .before .before .before .before .before .before .before .before .pre .1))), (refl, refl))))
+accepts-few-requires : tie.Need-accepts-few-requires
+accepts-few-requires c κs = ((leb-true _ 576 (c .before .before .if2 .taken), c .before .within .ensures (c .if3 .taken)), (letters _ _ _ _ (c .before .before .before .before .before .before .before .before .before .pre), c .before .before .before .if1 .taken))
 
 returns : tie.Need-returns
-returns c = rw (c .before .before .before .before .before .before .before .before .before .before .name .ensures) at (c .before .before .run .ensures)
+returns c = rw (c .before .before .before .before .before .before .name .ensures) at (c .accepts-few .ensures)
+
+accepts-many-requires : tie.Need-accepts-many-requires
+accepts-many-requires c κs = ((fitting _ _ _ _ (c .before .before .before .before .before .before .pre) .few, fitting _ _ _ _ (c .before .before .before .before .before .before .pre) .fit), (letters _ _ _ _ (c .before .before .before .before .before .before .pre), fitting _ _ _ _ (c .before .before .before .before .before .before .pre) .small-heads (c .before .before .name .result) (rw (c .before .before .name .ensures) (named-role _ _ _ _ (c .before .before .before .before .before .before .pre)))))
+
+returns-2 : tie.Need-returns-2
+returns-2 c = rw (c .before .before .before .name .ensures) at (c .accepts-many .ensures)
 
 pub accepts-spec : {M : Type 1} → statement M
 accepts-spec =
@@ -54,10 +45,8 @@ accepts-spec =
     mul-head
     shared-slice-read-head
     cast-head-2
-    slice-aggregate-fill-index
-    fill-index-requires
-    slice-aggregate-run
-    slice-aggregate-run-2
-    slice-aggregate-run-3
-    run-requires
-    returns)
+    within-requires
+    accepts-few-requires
+    returns
+    accepts-many-requires
+    returns-2)

@@ -1,4 +1,4 @@
--- `spread` meets its contract. The invariant: of the transitions from the state, those from the entry on are done.
+-- `spread` meets its contract. The invariant: of the list for the state and the label, the transitions from the entry on are done.
 use mathlib.Core.Logic.{⊎-elim}
 use mathlib.Core.Path.{_≡_}
 use Prim.Native.Nat.{_+_, _*_, _-_}
@@ -10,82 +10,88 @@ use Rattle.answerer.proofs.reading.spread.Statement.{statement}
 use Rattle.answerer.proofs.reading.spread.Tie as tie
 
 abbrev Inv-loop : tie.InvT-loop
-Inv-loop moves index from label states₀ count all₀ at₀ states all at = Walked moves from label at states₀ count states all
+Inv-loop moves index room from label states₀ stamp count all₀ at₀ states all at = Walked room stamp moves from label at states₀ count states all
 
 abbrev μ-loop : tie.MeasureT-loop
-μ-loop moves index from label states₀ count all₀ at₀ states all at = at
+μ-loop moves index room from label states₀ stamp count all₀ at₀ states all at = at
+
+slot-requires : tie.Need-slot-requires Inv-loop μ-loop
+slot-requires c κs = search needs
 
 mul-at : tie.Need-mul-at Inv-loop μ-loop
-mul-at c = search needs
+mul-at c = omega (arith, c .slot .ensures .1, c .before .before .before .before .pre .0 .few)
 
 shared-slice-read-at : tie.Need-shared-slice-read-at Inv-loop μ-loop
-shared-slice-read-at c = search needs
+shared-slice-read-at c = omega (arith, c .before .slot .ensures .1, c .before .before .before .before .before .pre .0 .space)
 
 cast-at : tie.Need-cast-at Inv-loop μ-loop
-cast-at c = omega (arith, (c .shared-slice-known3 .given) (c .before .before .before .before .args .from))
+cast-at c = omega (arith, (c .shared-slice-known3 .given) (c .before .slot .result))
 
 loop-holds : tie.Need-loop-holds Inv-loop μ-loop
-loop-holds c = walked-start _ _ (c .before .before .before .before .pre .0) _ _ _ _ (c .before .before .before .before .pre .1 .0) (c .before .before .before .before .pre .1 .1)
+loop-holds c = rw (c .before .slot .ensures .0) (walked-start _ _ _ _ (c .before .before .before .before .before .pre .0) _ _ _ _ (c .before .before .before .before .before .pre .1 .0) (c .before .before .before .before .before .pre .1 .1))
 
 sub-k : tie.Need-sub-k Inv-loop μ-loop
 sub-k c = search needs
 
 mul-if1 : tie.Need-mul-if1 Inv-loop μ-loop
-mul-if1 c = omega (arith, c .before .loop .inv .low, c .before .before .before .before .before .before .pre .0 .fit .few)
+mul-if1 c = search needs
 
 add-if1 : tie.Need-add-if1 Inv-loop μ-loop
-add-if1 c = omega (arith, c .before .loop .inv .low, c .before .before .before .before .before .before .pre .0 .fit .few)
+add-if1 c = search needs
 
 mul-if1-2 : tie.Need-mul-if1-2 Inv-loop μ-loop
-mul-if1-2 c = omega (arith, c .before .loop .inv .low, c .before .before .before .before .before .before .pre .0 .fit .few)
+mul-if1-2 c = search needs
 
 shared-slice-read-if1 : tie.Need-shared-slice-read-if1 Inv-loop μ-loop
-shared-slice-read-if1 c = omega (arith, c .before .before .loop .inv .low, c .before .loop-test .taken)
+shared-slice-read-if1 c = search needs
 
 mul-put : tie.Need-mul-put Inv-loop μ-loop
-mul-put c = omega (arith, c .before .before .before .before .loop .inv .low, c .before .before .before .before .before .before .before .before .before .pre .0 .fit .few)
+mul-put c = search needs
 
 add-put : tie.Need-add-put Inv-loop μ-loop
-add-put c = omega (arith, c .before .before .before .before .loop .inv .low, c .before .before .before .before .before .before .before .before .before .pre .0 .fit .few)
+add-put c = search needs
 
 mul-put-2 : tie.Need-mul-put-2 Inv-loop μ-loop
-mul-put-2 c = omega (arith, c .before .before .before .before .loop .inv .low, c .before .before .before .before .before .before .before .before .before .pre .0 .fit .few)
+mul-put-2 c = search needs
 
 shared-slice-read-put : tie.Need-shared-slice-read-put Inv-loop μ-loop
-shared-slice-read-put c = omega (arith, c .before .before .before .before .before .loop .inv .low, c .before .before .before .before .loop-test .taken)
+shared-slice-read-put c = search needs
 
 cast-put : tie.Need-cast-put Inv-loop μ-loop
 cast-put c = omega (arith, (c .shared-slice-known5 .given) (3 * (c .before .before .before .before .before .loop .at - 1) + 2))
 
 put-requires : tie.Need-put-requires Inv-loop μ-loop
-put-requires c κs = (c .before .before .before .before .before .loop .inv .spread .added .good, c .before .before .before .before .before .before .before .before .before .before .pre .0 .fit .to-fits (c .before .before .before .before .before .loop .at - 1) (omega (arith, c .before .before .before .before .before .loop .inv .low, c .before .before .before .before .loop-test .taken)))
-
-add-at : tie.Need-add-at Inv-loop μ-loop
-add-at c = omega (arith, c .before .before .before .loop .inv .low, c .before .before .before .before .before .before .before .before .pre .0 .fit .few)
+put-requires c κs = (c .before .before .before .before .before .before .before .before .before .before .before .pre .0 .few, (c .before .before .before .before .before .loop .inv .spread .added .good, c .before .before .before .before .before .before .before .before .before .before .before .pre .0 .fit .to-fits (c .before .before .before .before .before .loop .at - 1) (omega (arith, c .before .before .before .before .before .loop .inv .low, c .before .before .before .before .loop-test .taken))))
 
 mul-at-2 : tie.Need-mul-at-2 Inv-loop μ-loop
-mul-at-2 c = omega (arith, c .before .before .before .loop .inv .low, c .before .before .before .before .before .before .before .before .pre .0 .fit .few)
+mul-at-2 c = search needs
+
+add-at : tie.Need-add-at Inv-loop μ-loop
+add-at c = search needs
+
+mul-at-3 : tie.Need-mul-at-3 Inv-loop μ-loop
+mul-at-3 c = search needs
 
 shared-slice-read-at-2 : tie.Need-shared-slice-read-at-2 Inv-loop μ-loop
-shared-slice-read-at-2 c = omega (arith, c .before .before .before .before .loop .inv .low, c .before .before .before .before .before .before .before .before .before .pre .0 .fit .few, c .before .before .before .before .before .before .before .before .before .pre .0 .size)
+shared-slice-read-at-2 c = search needs
 
 cast-at-2 : tie.Need-cast-at-2 Inv-loop μ-loop
-cast-at-2 c = omega (arith, (c .shared-slice-known6 .given) (2048 + (c .before .before .before .before .loop .at - 1)))
+cast-at-2 c = omega (arith, (c .shared-slice-known6 .given) (2 * c .before .before .before .before .before .before .before .before .before .before .args .room + (c .before .before .before .before .loop .at - 1)))
 
 loop-less : tie.Need-loop-less Inv-loop μ-loop
-loop-less c = next-less _ _ (c .before .before .before .before .before .before .before .before .before .pre .0) _ _ _ _ _ _ _ (c .before .before .before .before .loop .inv) (c .before .before .before .loop-test .taken)
+loop-less c = next-less _ _ _ _ (c .before .before .before .before .before .before .before .before .before .before .pre .0) _ _ _ _ _ _ _ (c .before .before .before .before .loop .inv) (c .before .before .before .loop-test .taken)
 
 loop-again : tie.Need-loop-again Inv-loop μ-loop
 loop-again c = ⊎-elim
-    (λ w. rw (w .6, w .7) (walked-same _ _ (c .before .before .before .before .before .before .before .before .before .pre .0) _ _ _ _ _ _ _ (c .before .before .before .before .loop .inv) (c .before .before .before .loop-test .taken) (w .0 .taken) _ _ (w .3 .ensures)))
-    (λ w. rw (w .1, w .2) (walked-other _ _ (c .before .before .before .before .before .before .before .before .before .pre .0) _ _ _ _ _ _ _ (c .before .before .before .before .loop .inv) (c .before .before .before .loop-test .taken) (w .0 .left)))
+    (λ w. rw (w .6, w .7) (walked-same _ _ _ _ (c .before .before .before .before .before .before .before .before .before .before .pre .0) _ _ _ _ _ _ _ (c .before .before .before .before .loop .inv) (c .before .before .before .loop-test .taken) (w .0 .taken) _ _ (w .3 .ensures)))
+    (λ w. rw (w .1, w .2) (walked-other _ _ _ _ (c .before .before .before .before .before .before .before .before .before .before .pre .0) _ _ _ _ _ _ _ (c .before .before .before .before .loop .inv) (c .before .before .before .loop-test .taken) (w .0 .left)))
     (c .before .if1 .came)
 
 same-length : tie.Need-same-length Inv-loop μ-loop
-same-length c = omega (arith, c .before .loop .inv .spread .added .good .size, c .before .before .before .before .before .before .pre .1 .1 .size)
+same-length c = search needs
 
 returns : tie.Need-returns Inv-loop μ-loop
-returns c = let e : c .before .loop .at ≡ 0 = omega arith in rw e at (c .before .loop .inv .spread)
+returns c = let e : c .before .loop .at ≡ 0 = omega (arith, c .loop-test .left) in rw e at (c .before .loop .inv .spread)
 
 pub spread-spec : {M : Type 1} → statement M
 spread-spec =
@@ -93,6 +99,7 @@ spread-spec =
     (tie.spec
     Inv-loop
     μ-loop
+    slot-requires
     mul-at
     shared-slice-read-at
     cast-at
@@ -108,8 +115,9 @@ spread-spec =
     shared-slice-read-put
     cast-put
     put-requires
-    add-at
     mul-at-2
+    add-at
+    mul-at-3
     shared-slice-read-at-2
     cast-at-2
     loop-less
