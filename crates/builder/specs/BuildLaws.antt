@@ -23,7 +23,6 @@ use Rattle.orderer.specs.declared.Ordering.{Ordering}
 use Rattle.orderer.specs.Gather.{Levels}
 use Rattle.orderer.specs.Gather as Gather
 use Rattle.builder.specs.Built.{Prepared, Builds}
-use Rattle.builder.specs.Built as Built
 use Rattle.builder.specs.declared.Outcome.the-variants as outcome
 use Rattle.builder.specs.BuiltLaws.{builds-refused}
 

@@ -1,20 +1,19 @@
--- From the sizes that were measured and the numbers that were written to what a build promises.
-use mathlib.Core.List.{List, [], _++_}
+-- From what was laid aside and then copied to what a build promises.
+use mathlib.Core.List.{List, _++_}
 use mathlib.Core.Logic.{_⊎_, inl, inr}
 use mathlib.Core.Path.{_≡_, refl, sym, ap, _∙_, subst}
-use Prim.Native.Nat.{ℕ, zero, suc, _+_, _*_, _<_, _≤_}
+use Prim.Native.Nat.{ℕ, _+_, _*_, _<_, _≤_}
 use native.Mathlib.Nat.{zero-add}
 use native.Mathlib.Omega.{arith}
 use lib.ListN.{length, take, drop}
-use lib.Seq.{sets, sets-eq}
+use lib.Seq.{sets, sets-eq, paste, take-at}
 use Rattle.roles.specs.Tests.{lt-or-le}
-use Rattle.roles.specs.Rule.{Rule, Book}
-use Rattle.tables.specs.Tables.{size-of, roots-from, transitions-from, states-from, numbers}
-use Rattle.format.specs.Result.{Result, map-result}
+use Rattle.roles.specs.Rule.{Book}
+use Rattle.tables.specs.Tables.{numbers}
 use Rattle.format.specs.Result.Result.{refused, accepted}
-use Rattle.causes.specs.Built.{states-of, count-of, heads-of, moves-of, built, over, written}
+use Rattle.causes.specs.Built.{states-of, count-of, heads-of, moves-of, built, over}
 use Rattle.causes.specs.BuiltLaws.{built-accepted}
-use Rattle.layout.specs.Indexed.{Indexed, level-in}
+use Rattle.layout.specs.Indexed.{level-in}
 use Rattle.layout.specs.Pieces.{length-numbers, length-roots}
 use Rattle.layout.specs.Sizes.{few-transitions}
 use Rattle.refusals.specs.declared.refusal.Refusal.{Refusal}
@@ -22,8 +21,8 @@ use Rattle.refusals.specs.Refusal.{cause-of, value-of}
 use Rattle.builder.specs.declared.Counts.{Counts}
 use Rattle.builder.specs.declared.Outcome.the-variants.{Built, Refused}
 use Rattle.builder.specs.declared.lay.Place.{Place}
-use Rattle.builder.specs.Lay.{Roots, Measured}
-use Rattle.builder.specs.Built.{counts-of, says, Prepared, Builds}
+use Rattle.builder.specs.Lay.{Roots}
+use Rattle.builder.specs.Built.{counts-of, Prepared, Builds}
 
 -- a refusal changes nothing
 pub builds-refused : (s h m : List ℕ) (x : Refusal) → built s (length h) (length m) ≡ refused (cause-of x) (value-of x) → Builds s h m h m (Refused x)
@@ -37,6 +36,10 @@ builds-accepted s h m h′ m′ b c e k p q = record { answer = rw (e, k) refl; 
 sets-over : (new old : List ℕ) → length new ≤ length old → sets old 0 new ≡ over new old
 sets-over new old h = sets-eq new old 0 (rw zero-add h) ∙ ap (λ (k : ℕ). new ++ drop k old) (zero-add (length new))
 
+-- numbers copied to the front are the new numbers over the old
+pasted : (new old from : List ℕ) (n : ℕ) → take n from ≡ new → length new ≡ n → paste old 0 from n ≡ over new old
+pasted new old from n e size = rw (e, zero-add) (ap (λ (k : ℕ). new ++ drop k old) (sym size))
+
 module _ (s ix : List ℕ) (names : ℕ) (p : Prepared s ix names) where
   few : states-of (p .book) ≤ 2048 → count-of (p .book) ≤ 5120
   few h = few-transitions (p .book .rules) (level-in ix) (p .index .fits) (p .book .names) (p .book .names) h
@@ -44,10 +47,10 @@ module _ (s ix : List ℕ) (names : ℕ) (p : Prepared s ix names) where
   pub fuel-enough : (x : ℕ) → x < names → level-in ix x < p .book .names
   fuel-enough x h = rw (← p .same) (p .levels x h)
 
-  -- what was measured
-  module _ (r : Place) (m : Measured (p .book .rules) (p .book .names) names r) where
-    own : Measured (p .book .rules) (p .book .names) (p .book .names) r
-    own = subst (λ (n : ℕ). Measured (p .book .rules) (p .book .names) n r) (p .same) m
+  -- what was laid
+  module _ (r : Place) (h h′ m m′ : List ℕ) (w : Roots (p .book .rules) (p .book .names) names r h h′ m m′) where
+    own : Roots (p .book .rules) (p .book .names) (p .book .names) r h h′ m m′
+    own = subst (λ (n : ℕ). Roots (p .book .rules) (p .book .names) n r h h′ m m′) (p .same) w
 
     pub too-large : 2048 < r .state → 2048 < states-of (p .book)
     too-large h = by-size (lt-or-le 2048 (states-of (p .book)))
@@ -67,35 +70,32 @@ module _ (s ix : List ℕ) (names : ℕ) (p : Prepared s ix names) where
     same-states h = own .within (fits h)
 
     pub same-count : r .state ≤ 2048 → r .count ≡ count-of (p .book)
-    same-count h = own .count (fits h) (omega (arith, few (fits h)))
+    same-count h = own .exact (fits h) (omega (arith, few (fits h))) .0
 
-  -- what was written
-  module _ (r : Place) (h h′ m m′ : List ℕ) (w : Roots (p .book .rules) (p .book .names) names r h h′ m m′) (size : states-of (p .book) ≤ 2048) where
-    wrote : Roots (p .book .rules) (p .book .names) (p .book .names) r h h′ m m′
-    wrote = subst (λ (n : ℕ). Roots (p .book .rules) (p .book .names) n r h h′ m m′) (p .same) w
+    module _ (small : r .state ≤ 2048) where
+      -- the first numbers are those of the tables
+      first-heads : p .book .names ≤ length h → take names h′ ≡ heads-of (p .book)
+      first-heads l =
+          let size = length-roots (p .book .rules) (p .book .names) (p .book .names) 0 0 in
+          ap (take names) (own .exact (fits small) (omega (arith, few (fits small))) .2 ∙ sets-over (heads-of (p .book)) h (rw size l))
+          ∙ take-at (heads-of (p .book)) _ names (size ∙ sym (p .same))
 
-    pub wrote-heads : p .book .names ≤ length h → h′ ≡ over (heads-of (p .book)) h
-    wrote-heads l =
-        wrote .exact size (omega (arith, few size)) .2
-        ∙ sets-over (heads-of (p .book)) h (rw (length-roots (p .book .rules) (p .book .names) (p .book .names) 0 0) l)
+      first-moves : 3 * count-of (p .book) ≤ length m → take (3 * r .count) m′ ≡ moves-of (p .book)
+      first-moves l =
+          ap (take (3 * r .count)) (own .exact (fits small) (omega (arith, few (fits small))) .1 ∙ sets-over (moves-of (p .book)) m (rw length-numbers l))
+          ∙ take-at (moves-of (p .book)) _ (3 * r .count) (length-numbers _ ∙ ap (λ (k : ℕ). 3 * k) (sym (same-count small)))
 
-    pub wrote-moves : 3 * count-of (p .book) ≤ length m → m′ ≡ over (moves-of (p .book)) m
-    wrote-moves l =
-        wrote .exact size (omega (arith, few size)) .1
-        ∙ sets-over (moves-of (p .book)) m (rw length-numbers l)
-
-  -- what was measured and then written is what a build promises
-  pub builds-written : (r w : Place) (h h′ m m′ : List ℕ) → Measured (p .book .rules) (p .book .names) names r
-      → Roots (p .book .rules) (p .book .names) names w h h′ m m′ → r .state ≤ 2048 → r .count ≤ 5120 → names ≤ length h → 3 * r .count ≤ length m
-      → Builds s h m h′ m′ (Built (record { names = names; states = r .state; transitions = r .count }))
-  builds-written r w h h′ m m′ sizes wrote small few long-heads long-moves =
-      let size : states-of (p .book) ≤ 2048 = fits r sizes small in
-      let states : r .state ≡ states-of (p .book) = same-states r sizes small in
-      let count : r .count ≡ count-of (p .book) = same-count r sizes small in
-      let enough-heads : p .book .names ≤ length h = rw (← p .same) long-heads in
-      let enough-moves : 3 * count-of (p .book) ≤ length m = rw (← count) long-moves in
-      builds-accepted s h m h′ m′ (p .book) _
-      (built-accepted s (length h) (length m) (p .book) (p .ordered) size (rw (← count) few) enough-heads enough-moves)
-      (rw (p .same, states, count) refl)
-      (wrote-heads w h h′ m m′ wrote size enough-heads)
-      (wrote-moves w h h′ m m′ wrote size enough-moves)
+    -- what was laid aside and then copied is what a build promises
+    pub builds-copied : length h ≡ 64 → length m ≡ 15360 → (g n : List ℕ) → r .state ≤ 2048 → r .count ≤ 5120 → names ≤ length g → 3 * r .count ≤ length n
+        → Builds s g n (paste g 0 h′ names) (paste n 0 m′ (3 * r .count)) (Built (record { names = names; states = r .state; transitions = r .count }))
+    builds-copied size-heads size-moves g n small few long-heads long-moves =
+        let count : r .count ≡ count-of (p .book) = same-count small in
+        let enough-heads : p .book .names ≤ length g = rw (← p .same) long-heads in
+        let enough-moves : 3 * count-of (p .book) ≤ length n = rw (← count) long-moves in
+        builds-accepted s g n (paste g 0 h′ names) (paste n 0 m′ (3 * r .count)) (p .book) _
+        (built-accepted s (length g) (length n) (p .book) (p .ordered) (fits small) (rw (← count) few) enough-heads enough-moves)
+        (rw (p .same, same-states small, count) refl)
+        (pasted (heads-of (p .book)) g h′ names (first-heads small (omega (arith, p .same, p .few, size-heads)))
+        (length-roots (p .book .rules) (p .book .names) (p .book .names) 0 0 ∙ sym (p .same)))
+        (pasted (moves-of (p .book)) n m′ (3 * r .count) (first-moves small (omega (arith, count, few, size-moves)))
+        (length-numbers _ ∙ ap (λ (k : ℕ). 3 * k) (sym count)))

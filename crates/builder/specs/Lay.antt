@@ -1,5 +1,5 @@
 -- What the functions that lay fragments promise, over the place that they are handed and the one that they hand back.
-use mathlib.Core.Bool.{Bool, true, false, cond}
+use mathlib.Core.Bool.{Bool, cond}
 use mathlib.Core.List.{List}
 use mathlib.Core.Path.{_≡_}
 use Prim.Native.Nat.{ℕ, _<_, _≤_}
@@ -40,10 +40,3 @@ pub record Roots (ρs : List Rule) (fuel names : ℕ) (r : Place) (heads heads�
   pub exact : states-from ρs fuel names 0 ≤ 2048 → length (transitions-from ρs fuel names 0 0) ≤ 60000
       → (r .count ≡ length (transitions-from ρs fuel names 0 0)) × (moves′ ≡ sets moves 0 (numbers (transitions-from ρs fuel names 0 0)))
       × (heads′ ≡ sets heads 0 (roots-from ρs fuel names 0 0))
-
--- how large the roots of names are
-pub record Measured (ρs : List Rule) (fuel names : ℕ) (r : Place) : Type 0 where
-  pub within : states-from ρs fuel names 0 ≤ 2048 → r .state ≡ states-from ρs fuel names 0
-  pub over : 2048 < states-from ρs fuel names 0 → 2048 < r .state
-  pub count : states-from ρs fuel names 0 ≤ 2048 → length (transitions-from ρs fuel names 0 0) ≤ 60000
-      → r .count ≡ length (transitions-from ρs fuel names 0 0)

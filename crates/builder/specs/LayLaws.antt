@@ -1,6 +1,6 @@
 -- The shape found at a rule's place is the shape of the rule.
 use mathlib.Core.List.{List}
-use mathlib.Core.Path.{_≡_, refl, ap, _∙_}
+use mathlib.Core.Path.{_≡_, ap, _∙_}
 use Prim.Native.Nat.{ℕ, _<_}
 use lib.ListN.{length}
 use Rattle.roles.specs.Rule.{Rule}

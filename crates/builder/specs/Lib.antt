@@ -9,3 +9,4 @@ pub mod Built
 pub mod BuiltLaws
 pub mod BuildLaws
 pub mod WrittenLaws
+pub mod CopyLaws

@@ -1,12 +1,8 @@
 // The table builder: causes 1 to 11, and the tables of an accepted book in lent memory.
-ghost use mathlib.Core.List.{List};
 ghost use mathlib.Core.Path.{_≡_};
-ghost use Prim.Native.Nat.{ℕ, _<_, _≤_};
-ghost use Rattle.roles.specs.Rule.{Rule, Book};
-ghost use Rattle.format.specs.Result.Result.{accepted};
-ghost use Rattle.causes.specs.Ordered.{ordered};
-ghost use Rattle.layout.specs.Indexed.{Indexed, level-in};
-ghost use Rattle.builder.specs.Lay.{Ready, Measured};
+ghost use Prim.Native.Nat.{_≤_};
+ghost use lib.ListN.{length};
+ghost use lib.Seq.{paste};
 ghost use Rattle.builder.specs.Built.{Prepared, Builds};
 
 mod index;
@@ -14,7 +10,6 @@ mod lay;
 
 use decoder::Verdict;
 use index::fill;
-use lay::Place;
 use lay::roots;
 use refusals::Refusal;
 
@@ -48,7 +43,7 @@ pub fn build(book: &[u8], heads: &mut [u16], moves: &mut [u16]) -> Outcome
     }
 }
 
-// Builds the tables of an ordered book through its index: first without a table, to learn their sizes, then in the lent ones.
+// Builds the tables of an ordered book through its index: first aside, to learn their sizes, then in the lent ones.
 fn lay_tables(
     book: &[u8],
     index: &[u16],
@@ -59,7 +54,9 @@ fn lay_tables(
     requires { ⌜ Prepared (now book) (now index) names ⌝ }
     ensures { λ r. ⌜ Builds (now (book .entry)) (now (heads .entry)) (now (moves .entry)) (now (heads .exit)) (now (moves .exit)) r ⌝ }
 {
-    let end = measured(book, index, names);
+    let mut own_heads = [0u16; 64];
+    let mut own_moves = [0u16; 15360];
+    let end = roots(book, index, names, &mut own_heads, &mut own_moves);
     let states = end.state;
     let count = end.count;
     if 2048 < states {
@@ -74,7 +71,8 @@ fn lay_tables(
     if moves.len() < 3 * count {
         return Outcome::Refused(Refusal::Short);
     }
-    roots(book, index, names, heads, moves);
+    copy(&own_heads, names, heads);
+    copy(&own_moves, 3 * count, moves);
     Outcome::Built(Counts {
         names: names,
         states: states,
@@ -82,14 +80,14 @@ fn lay_tables(
     })
 }
 
-// How many states and transitions the tables have, by laying them nowhere.
-fn measured(book: &[u8], index: &[u16], names: usize) -> Place
-    requires { ⌜ Ready (now book) (now index) ⌝ }
-    requires { ⌜ names ≤ 64 ⌝ }
-    ensures { λ r. ⌜ ((ρs : List Rule) → Indexed (now (book .entry)) ρs (now (index .entry)) → (fuel : ℕ)
-        → ((x : ℕ) → x < names → level-in (now (index .entry)) x < fuel) → Measured ρs fuel names r) ⌝ }
+// Copies the first numbers of a table over those of another.
+fn copy(from: &[u16], count: usize, to: &mut [u16])
+    requires { ⌜ (count ≤ length (now from)) × (count ≤ length (now to)) ⌝ }
+    ensures { λ _. ⌜ now (to .exit) ≡ paste (now (to .entry)) 0 (now (from .entry)) count ⌝ }
 {
-    let mut nothing = [0u16; 1];
-    let mut nowhere = [0u16; 1];
-    roots(book, index, names, &mut nothing[0..0], &mut nowhere[0..0])
+    let mut i = 0;
+    while i < count {
+        to[i] = from[i];
+        i += 1;
+    }
 }

@@ -1,50 +1,63 @@
--- `lay_tables` meets its contract: causes 9 to 11 by the measured sizes, then the tables in the lent memory.
+-- `lay_tables` meets its contract: causes 9 to 11 by what was laid aside, then its numbers in the lent memory.
+use mathlib.Core.Path.{refl}
 use native.Mathlib.Omega.{arith}
-use borrow.Author.Needs.{needs}
-use Rattle.builder.specs.BuiltLaws.{builds-refused, builds-written, fuel-enough, too-large, fits, same-count}
+use Rattle.builder.specs.BuiltLaws.{builds-refused, builds-copied, fuel-enough, too-large, fits, same-count}
 use Rattle.causes.specs.BuiltLaws.{built-states, built-count, built-heads, built-moves}
+use borrow.Author.Needs.{needs}
 use Rattle.builder.proofs.lay_tables.Statement.{statement}
 use Rattle.builder.proofs.lay_tables.Tie as tie
 
-measured-requires : tie.Need-measured-requires
-measured-requires c κs = search needs
+slice-aggregate-roots : tie.Need-slice-aggregate-roots
+slice-aggregate-roots c = search needs
+
+slice-aggregate-roots-2 : tie.Need-slice-aggregate-roots-2
+slice-aggregate-roots-2 c = search needs
+
+roots-requires : tie.Need-roots-requires
+roots-requires c κs = search needs
 
 returns : tie.Need-returns
-returns c =
-    let p = c .before .before .before .before .before .before .pre in
-    let m = c .before .measured .ensures (p .book .rules) (p .index) (p .book .names) (fuel-enough _ _ _ p) in
-    builds-refused _ _ _ _ (built-states _ _ _ (p .book) (p .ordered) (too-large _ _ _ p _ m (c .if1 .taken)))
+returns c = let p = c .before .before .before .before .before .before .before .before .before .before .pre in
+    let w = c .before .before .before .roots .ensures (p .book .rules) (p .index) (p .book .names) (fuel-enough _ _ _ p) in
+    builds-refused _ _ _ _ (built-states _ _ _ (p .book) (p .ordered) (too-large _ _ _ p _ _ _ _ _ w (c .if1 .taken)))
 
 returns-2 : tie.Need-returns-2
-returns-2 c =
-    let p = c .before .before .before .before .before .before .before .pre in
-    let m = c .before .before .measured .ensures (p .book .rules) (p .index) (p .book .names) (fuel-enough _ _ _ p) in
+returns-2 c = let p = c .before .before .before .before .before .before .before .before .before .before .before .pre in
+    let w = c .before .before .before .before .roots .ensures (p .book .rules) (p .index) (p .book .names) (fuel-enough _ _ _ p) in
     builds-refused _ _ _ _
-    (built-count _ _ _ (p .book) (p .ordered) (fits _ _ _ p _ m (c .before .if1 .left)) (omega (arith, same-count _ _ _ p (c .before .before .measured .result) m (c .before .if1 .left), c .if2 .taken)))
+    (built-count _ _ _ (p .book) (p .ordered) (fits _ _ _ p _ _ _ _ _ w (c .before .if1 .left)) (omega (arith, same-count _ _ _ p _ _ _ _ _ w (c .before .if1 .left), c .if2 .taken)))
 
 returns-3 : tie.Need-returns-3
-returns-3 c =
-    let p = c .before .before .before .before .before .before .before .before .pre in
-    let m = c .before .before .before .measured .ensures (p .book .rules) (p .index) (p .book .names) (fuel-enough _ _ _ p) in
-    let f = fits _ _ _ p _ m (c .before .before .if1 .left) in
+returns-3 c = let p = c .before .before .before .before .before .before .before .before .before .before .before .before .pre in
+    let w = c .before .before .before .before .before .roots .ensures (p .book .rules) (p .index) (p .book .names) (fuel-enough _ _ _ p) in
     builds-refused _ _ _ _
-    (built-heads _ _ _ (p .book) (p .ordered) f (omega (arith, same-count _ _ _ p (c .before .before .before .measured .result) m (c .before .before .if1 .left), c .before .if2 .left))
+    (built-heads _ _ _ (p .book) (p .ordered) (fits _ _ _ p _ _ _ _ _ w (c .before .before .if1 .left)) (omega (arith, same-count _ _ _ p _ _ _ _ _ w (c .before .before .if1 .left), c .before .if2 .left))
     (omega (arith, p .same, c .if3 .taken)))
 
 mul-if4 : tie.Need-mul-if4
 mul-if4 c = search needs
 
 returns-4 : tie.Need-returns-4
-returns-4 c =
-    let p = c .before .before .before .before .before .before .before .before .before .pre in
-    let m = c .before .before .before .before .measured .ensures (p .book .rules) (p .index) (p .book .names) (fuel-enough _ _ _ p) in
-    let f = fits _ _ _ p _ m (c .before .before .before .if1 .left) in
-    let k = same-count _ _ _ p (c .before .before .before .before .measured .result) m (c .before .before .before .if1 .left) in
+returns-4 c = let p = c .before .before .before .before .before .before .before .before .before .before .before .before .before .pre in
+    let w = c .before .before .before .before .before .before .roots .ensures (p .book .rules) (p .index) (p .book .names) (fuel-enough _ _ _ p) in
+    let k = same-count _ _ _ p _ _ _ _ _ w (c .before .before .before .if1 .left) in
     builds-refused _ _ _ _
-    (built-moves _ _ _ (p .book) (p .ordered) f (omega (arith, k, c .before .before .if2 .left)) (omega (arith, k, c .if4 .taken)))
+    (built-moves _ _ _ (p .book) (p .ordered) (fits _ _ _ p _ _ _ _ _ w (c .before .before .before .if1 .left)) (omega (arith, k, c .before .before .if2 .left)) (omega (arith, k, c .if4 .taken)))
 
-roots-requires : tie.Need-roots-requires
-roots-requires c κs = search needs
+slice-aggregate-copy : tie.Need-slice-aggregate-copy
+slice-aggregate-copy c = search needs
+
+copy-requires : tie.Need-copy-requires
+copy-requires c κs = search needs
+
+slice-aggregate-copy-2 : tie.Need-slice-aggregate-copy-2
+slice-aggregate-copy-2 c = search needs
+
+mul-copy : tie.Need-mul-copy
+mul-copy c = search needs
+
+copy-requires-2 : tie.Need-copy-requires-2
+copy-requires-2 c κs = search needs
 
 same-length : tie.Need-same-length
 same-length c = search needs
@@ -53,24 +66,28 @@ same-length-2 : tie.Need-same-length-2
 same-length-2 c = search needs
 
 returns-5 : tie.Need-returns-5
-returns-5 c =
-    let p = c .before .before .before .before .before .before .before .before .before .before .before .before .before .before .before .before .pre in
-    builds-written _ _ _ p (c .before .before .before .before .before .before .before .before .before .before .before .measured .result) (c .before .before .before .before .roots .result) _ _ _ _
-    (c .before .before .before .before .before .before .before .before .before .before .before .measured .ensures (p .book .rules) (p .index) (p .book .names) (fuel-enough _ _ _ p))
-    (c .before .before .before .before .roots .ensures (p .book .rules) (p .index) (p .book .names) (fuel-enough _ _ _ p))
-    (c .before .before .before .before .before .before .before .before .before .before .if1 .left) (c .before .before .before .before .before .before .before .before .before .if2 .left) (c .before .before .before .before .before .before .before .before .if3 .left) (c .before .before .before .before .before .before .before .if4 .left)
+returns-5 c = let p = c .before .before .before .before .before .before .before .before .before .before .before .before .before .before .before .before .before .before .before .before .before .before .before .pre in
+    rw (c .before .before .before .before .before .before .before .copy .ensures, c .before .before .copy2 .ensures)
+    (builds-copied _ _ _ p _ _ _ _ _ (c .before .before .before .before .before .before .before .before .before .before .before .before .before .before .before .before .roots .ensures (p .book .rules) (p .index) (p .book .names) (fuel-enough _ _ _ p)) refl refl _ _
+    (c .before .before .before .before .before .before .before .before .before .before .before .before .before .if1 .left) (c .before .before .before .before .before .before .before .before .before .before .before .before .if2 .left) (c .before .before .before .before .before .before .before .before .before .before .before .if3 .left) (c .before .before .before .before .before .before .before .before .before .before .if4 .left))
 
 pub lay-tables-spec : {M : Type 1} → statement M
 lay-tables-spec =
     tie.close
     (tie.spec
-    measured-requires
+    slice-aggregate-roots
+    slice-aggregate-roots-2
+    roots-requires
     returns
     returns-2
     returns-3
     mul-if4
     returns-4
-    roots-requires
+    slice-aggregate-copy
+    copy-requires
+    slice-aggregate-copy-2
+    mul-copy
+    copy-requires-2
     same-length
     same-length-2
     returns-5)
