@@ -1,0 +1,54 @@
+//! The engine of document 01 in plain Rust, without proofs. The five calls have the interface of the archive's
+//! C functions; beside them stand two other ways to decide membership, from the completed rules alone.
+#![forbid(unsafe_code)]
+
+pub mod book;
+pub mod completion;
+pub mod intervals;
+pub mod order;
+pub mod program;
+pub mod query;
+pub mod refusal;
+pub mod rewriting;
+pub mod tables;
+#[cfg(test)]
+mod tests;
+
+pub use book::left;
+pub use query::ask;
+pub use refusal::{Cause, Refusal};
+pub use tables::build;
+
+use book::Book;
+
+/// The names and the rule count of a well-formed book, or the refusal (causes 1 to 7).
+pub fn read(book: &[u8]) -> Result<(u64, u64), Refusal> {
+    let book = Book::read(book)?;
+    Ok((book.names() as u64, book.rules() as u64))
+}
+
+/// The names and the rule count of a well-formed book with a regular order, or the refusal (causes 1 to 8).
+pub fn order(book: &[u8]) -> Result<(u64, u64), Refusal> {
+    let book = Book::read(book)?;
+    order::check(&book)?;
+    Ok((book.names() as u64, book.rules() as u64))
+}
+
+/// Builds the tables of a book into the lent slices, then asks them: causes 1 to 11, then 12 to 14.
+/// The lent slices are left as [`build`] leaves them, whatever becomes of the question.
+pub fn derived(
+    book: &[u8],
+    heads: &mut [u16],
+    moves: &mut [u16],
+    role: u8,
+    chain: &[u8],
+) -> Result<bool, Refusal> {
+    let (_, transitions) = build(book, heads, moves)?;
+    let names = usize::from(book[book::NAMES]);
+    ask(
+        &heads[..names],
+        &moves[..3 * transitions as usize],
+        role,
+        chain,
+    )
+}

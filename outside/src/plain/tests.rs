@@ -1,0 +1,468 @@
+//! The examples, edges and misreadings of document 01, tried on the plain engine.
+
+use super::book::Book;
+use super::intervals::Intervals;
+use super::program::{run, Indexing};
+use super::query::Indexed;
+use super::rewriting::Rewriting;
+use super::tables::{MAX_STATES, MAX_TRANSITIONS};
+use super::*;
+use crate::books::{encode, HALL};
+
+const PART: u8 = 0;
+const SITS: u8 = 2;
+const LET: u8 = 4;
+const DUE: u8 = 6;
+
+/// Roles of names 0 and 1 in small books.
+const R: u8 = 0;
+const S: u8 = 2;
+
+fn inv(role: u8) -> u8 {
+    role ^ 1
+}
+
+/// The number of the cause and the value beside it; 0 with the first number of what was accepted.
+fn first<T: Into<u128>>(result: Result<(u64, T), Refusal>) -> (u64, u64) {
+    match result {
+        Ok((first, _)) => (0, first),
+        Err(Refusal { cause, value }) => (cause as u64, value),
+    }
+}
+
+struct Tables {
+    heads: Vec<u16>,
+    moves: Vec<u16>,
+}
+
+/// The written numbers alone.
+fn tables(book: &[u8]) -> Tables {
+    let mut heads = vec![7; 64];
+    let mut moves = vec![7; 3 * MAX_TRANSITIONS];
+    let (_, transitions) = build(book, &mut heads, &mut moves).unwrap();
+    heads.truncate(usize::from(book[5]));
+    moves.truncate(3 * transitions as usize);
+    Tables { heads, moves }
+}
+
+/// The answer of the tables, which the two other methods must give too.
+fn member(book: &[u8], role: u8, chain: &[u8]) -> bool {
+    let Tables { heads, moves } = tables(book);
+    let answer = ask(&heads, &moves, role, chain).unwrap();
+    let mut indexed = Indexed::new(&heads, &moves).unwrap();
+    assert_eq!(indexed.ask(role, chain), Ok(answer));
+    let mut heads = [9; 64];
+    let mut moves = [9; 3 * MAX_TRANSITIONS];
+    assert_eq!(
+        derived(book, &mut heads, &mut moves, role, chain),
+        Ok(answer)
+    );
+    let book = Book::read(book).unwrap();
+    let intervals = Intervals::new(&book).roles(chain);
+    assert_eq!(intervals >> role & 1 == 1, answer);
+    let rewriting = Rewriting::new(&book).roles(chain, 100_000).unwrap();
+    assert_eq!(rewriting, intervals);
+    answer
+}
+
+fn refused(heads: &[u16], moves: &[u16], role: u8, chain: &[u8]) -> u64 {
+    let refusal = ask(heads, moves, role, chain).unwrap_err();
+    assert_eq!(refusal.value, 0);
+    refusal.cause as u64
+}
+
+#[test]
+fn hall_tables() {
+    assert_eq!(read(HALL), Ok((4, 3)));
+    assert_eq!(order(HALL), Ok((4, 3)));
+    let Tables { heads, moves } = tables(HALL);
+    assert_eq!(heads, [0, 2, 6, 8]);
+    let by_hand = [
+        [0, 0, 1],
+        [1, 128, 0],
+        [2, 2, 3],
+        [2, 128, 4],
+        [4, 0, 5],
+        [5, 128, 4],
+        [5, 128, 2],
+        [6, 4, 7],
+        [8, 6, 9],
+        [8, 128, 10],
+        [10, 2, 11],
+        [10, 128, 12],
+        [12, 0, 13],
+        [13, 128, 12],
+        [13, 128, 10],
+        [11, 128, 14],
+        [14, 4, 15],
+        [15, 128, 9],
+    ];
+    assert_eq!(moves, by_hand.as_flattened());
+}
+
+#[test]
+fn hall_questions() {
+    assert!(member(HALL, DUE, &[PART, PART, SITS, LET]));
+    assert!(!member(HALL, DUE, &[SITS, PART, LET]));
+    assert!(member(HALL, inv(DUE), &[inv(LET), inv(SITS), inv(PART)]));
+    assert!(member(HALL, DUE, &[DUE]));
+    assert!(!member(HALL, SITS, &[PART]));
+    let Tables { heads, moves } = tables(HALL);
+    assert_eq!(refused(&heads, &moves, DUE, &[]), 13);
+    assert_eq!(refused(&heads, &moves, DUE, &[8]), 14);
+    assert_eq!(refused(&heads, &moves, 8, &[DUE]), 14);
+}
+
+#[test]
+fn hall_program() {
+    let questions = b"\x06\x04\x00\x00\x00\x02\x04\x06\x03\x00\x02\x00\x04\x07\x03\x00\x05\x03\x01\x06\x00\x00\x06\x01\x00\x08";
+    let lines = [
+        "book 16 18\n",
+        "0 yes\n",
+        "1 no\n",
+        "2 yes\n",
+        "3 refused 13\n",
+        "4 refused 14\n",
+    ];
+    // Where each question ends.
+    let ends = [7, 13, 19, 22, 26];
+    for indexing in [Indexing::Once, Indexing::EachQuestion] {
+        for cut in 0..=questions.len() {
+            let mut output = Vec::new();
+            run(HALL, &questions[..cut], &mut output, indexing).unwrap();
+            let whole = ends.iter().filter(|&&end| end <= cut).count();
+            let mut expected = lines[..=whole].concat();
+            if cut != 0 && !ends.contains(&cut) {
+                expected += &format!("{whole} cut\n");
+            }
+            assert_eq!(String::from_utf8(output).unwrap(), expected);
+        }
+    }
+}
+
+#[test]
+fn program_refusals() {
+    let written = |book: &[u8], questions: &[u8]| {
+        let mut output = Vec::new();
+        run(book, questions, &mut output, Indexing::Once).unwrap();
+        String::from_utf8(output).unwrap()
+    };
+    assert_eq!(written(b"", b"\x00\x01\x00\x00"), "book refused 1 0\n");
+    let cycle = encode(2, &[(R, [S]), (S, [R])]);
+    assert_eq!(written(&cycle, b""), "book refused 8 1\n");
+    // A refused question's chain is read past; a cut one is cut, whatever else is wrong with it.
+    let mut questions = vec![DUE, 1, 4];
+    questions.extend([DUE; 1025]);
+    questions.extend([DUE, 1, 0, DUE]);
+    questions.extend([99, 255, 255]);
+    questions.extend([DUE; 65534]);
+    assert_eq!(
+        written(HALL, &questions),
+        "book 16 18\n0 refused 13\n1 yes\n2 cut\n"
+    );
+    questions.push(DUE);
+    assert_eq!(
+        written(HALL, &questions),
+        "book 16 18\n0 refused 13\n1 yes\n2 refused 13\n"
+    );
+}
+
+#[test]
+fn starred_books() {
+    assert_eq!(first(order(&encode(1, &[(R, [R])]))), (8, 0));
+    assert_eq!(first(order(&encode(2, &[(R, [S]), (S, [R])]))), (8, 1));
+    let symmetric = encode(1, &[(R, [inv(R)]), (inv(R), [R])]);
+    assert_eq!(first(read(&symmetric)), (7, 1));
+    let empty = encode(1, &[] as &[(u8, [u8; 0])]);
+    assert_eq!(build(&empty, &mut [0], &mut [0; 3]), Ok((2, 1)));
+    assert_eq!(first(read(&encode(0, &[] as &[(u8, [u8; 0])]))), (4, 0));
+}
+
+#[test]
+fn headers() {
+    for length in 0..8 {
+        assert_eq!(first(read(&HALL[..length])), (1, 0));
+    }
+    // 256 rules of length 8 pass, all different.
+    let row = |number: u8| [0, 1, 2, 3, 4, 5, 6, 7].map(|bit| S | number >> bit & 1);
+    let rules: Vec<_> = (0..=255).map(|number| (R, row(number))).collect();
+    let mut long = encode(64, &rules);
+    assert_eq!(long.len(), 2568);
+    assert_eq!(read(&long), Ok((64, 256)));
+    assert_eq!(order(&long), Ok((64, 256)));
+    long.push(0);
+    assert_eq!(first(read(&long)), (1, 0));
+    let with = |at: usize, byte: u8| {
+        let mut book = HALL.to_vec();
+        book[at] = byte;
+        first(read(&book))
+    };
+    for at in 0..3 {
+        assert_eq!(with(at, 0), (2, 0));
+    }
+    assert_eq!(with(3, 0), (3, 0));
+    assert_eq!(with(4, 1), (3, 0));
+    assert_eq!(with(5, 0), (4, 0));
+    assert_eq!(with(5, 65), (4, 0));
+    assert_eq!(with(5, 64), (0, 64));
+    assert_eq!(with(7, 2), (4, 0));
+    // 256 + 3 rules are too many; 256 are not, but they are cut short.
+    assert_eq!(with(7, 1), (4, 0));
+    let mut book = HALL.to_vec();
+    (book[6], book[7]) = (0, 1);
+    assert_eq!(first(read(&book)), (5, 3));
+    (book[6], book[7]) = (1, 1);
+    assert_eq!(first(read(&book)), (4, 0));
+    (book[6], book[7]) = (2, 0);
+    assert_eq!(first(read(&book)), (5, 2));
+}
+
+#[test]
+fn rules_one_after_another() {
+    // Cut short at each byte: the rule that is cut.
+    for (length, rule) in (8..20).zip([0, 0, 0, 0, 1, 1, 1, 1, 2, 2, 2, 2]) {
+        assert_eq!(first(read(&HALL[..length])), (5, rule));
+    }
+    assert_eq!(first(read(&encode(2, &[(R, vec![S; 8])]))), (0, 2));
+    assert_eq!(first(read(&encode(2, &[(R, vec![S; 9])]))), (5, 0));
+    assert_eq!(first(read(&encode(2, &[(R, vec![])]))), (5, 0));
+    // 5 comes first in each rule, but a rule with an unknown role comes before a later rule of length 0.
+    assert_eq!(
+        first(read(&encode(2, &[(4, vec![S]), (R, vec![])]))),
+        (6, 0)
+    );
+    assert_eq!(
+        first(read(&encode(2, &[(R, vec![S]), (4, vec![])]))),
+        (5, 1)
+    );
+    assert_eq!(
+        first(read(&encode(2, &[(R, vec![S]), (R, vec![3, 4])]))),
+        (6, 1)
+    );
+    // Bytes after the last rule come after 6 and before 7.
+    let mut book = encode(2, &[(R, vec![S]), (R, vec![S])]);
+    assert_eq!(first(read(&book)), (7, 1));
+    book.push(0);
+    assert_eq!(first(read(&book)), (5, 2));
+    book[8] = 9;
+    assert_eq!(first(read(&book)), (6, 0));
+}
+
+#[test]
+fn repeated_rules() {
+    let rules = [
+        (R, vec![S, inv(S)]),
+        (inv(R), vec![S]),
+        (R, vec![inv(S)]),
+        (inv(R), vec![S, inv(S)]),
+    ];
+    assert_eq!(first(read(&encode(2, &rules))), (7, 2));
+    // Equal left sides with different right sides, or front parts of each other, are no repetition.
+    let rules = [(R, vec![S]), (inv(R), vec![S]), (R, vec![S, S])];
+    assert_eq!(first(read(&encode(2, &rules))), (0, 2));
+    assert_eq!(
+        first(read(&encode(2, &[(R, vec![0]), (R, vec![0, 0])]))),
+        (0, 2)
+    );
+}
+
+#[test]
+fn left_sides() {
+    let left_of = |rule| left(HALL, rule);
+    assert!(std::ptr::eq(left_of(0), &HALL[10..12]));
+    assert!(std::ptr::eq(left_of(1), &HALL[14..16]));
+    assert!(std::ptr::eq(left_of(2), &HALL[18..20]));
+    assert!(left_of(3).is_empty());
+    assert!(left_of(usize::MAX).is_empty());
+    assert!(left(&HALL[..19], 0).is_empty());
+    // A book refused by cause 7 has left sides.
+    assert_eq!(left(&encode(2, &[(R, [S]), (R, [S])]), 1), [S]);
+}
+
+#[test]
+fn forms_without_order() {
+    let order_of = |rules: &[(u8, &[u8])]| first(order(&encode(3, rules)));
+    let t = 4;
+    for left in [
+        &[R][..],
+        &[R, S, R],
+        &[R, inv(R)],
+        &[inv(R), R],
+        &[inv(R), S],
+        &[S, inv(R)],
+        &[S, R, S],
+        &[R, R, R],
+        &[inv(R), inv(R)],
+        &[R, R, S],
+        &[R, S, inv(R)],
+    ] {
+        assert_eq!(order_of(&[(S, &[t]), (R, left)]), (8, 1));
+        // The same for an inverse on the right.
+        let inverse = completion::inverse(left);
+        assert_eq!(order_of(&[(S, &[t]), (inv(R), &inverse)]), (8, 1));
+    }
+    for left in [
+        &[S][..],
+        &[inv(S), S],
+        &[R, S],
+        &[S, R],
+        &[R, S, S],
+        &[S, t, R],
+        &[R, R],
+        &[inv(R)],
+    ] {
+        assert_eq!(order_of(&[(S, &[t]), (R, left)]), (0, 3));
+        let inverse = completion::inverse(left);
+        assert_eq!(order_of(&[(S, &[t]), (inv(R), &inverse)]), (0, 3));
+    }
+    assert_eq!(
+        order_of(&[(S, &[R]), (t, &[S]), (t, &[t, t]), (inv(R), &[inv(R), t])]),
+        (8, 3)
+    );
+    // A well-formed front part decides, whatever follows.
+    assert_eq!(order_of(&[(S, &[R]), (R, &[inv(S)]), (t, &[t])]), (8, 1));
+}
+
+#[test]
+fn readings_that_go_astray() {
+    // Without mirrors this would be no.
+    assert!(member(HALL, inv(DUE), &[inv(LET), inv(SITS), inv(PART)]));
+    // The rules of a symmetric relation's inverse count.
+    let symmetric = encode(2, &[(R, vec![inv(R)]), (R, vec![S, R])]);
+    assert!(member(&symmetric, R, &[R, inv(S)]));
+    assert!(member(&symmetric, R, &[S, inv(R)]));
+    assert!(!member(&symmetric, R, &[R, S]));
+    // The loop of form 3 stands at the initial state.
+    assert!(!member(HALL, SITS, &[SITS, PART]));
+    assert!(member(HALL, SITS, &[PART, SITS]));
+    let form2 = encode(2, &[(R, vec![R, S])]);
+    assert!(member(&form2, R, &[R, S, S]));
+    assert!(!member(&form2, R, &[S, R]));
+    assert!(member(&form2, inv(R), &[inv(S), inv(R)]));
+    // "Exactly" is not the definition here.
+    assert!(!member(&encode(2, &[(R, [S, inv(S), S])]), R, &[S]));
+}
+
+#[test]
+fn symmetric_tables() {
+    // inv(R) to R; S R to R; S S to S: rows of R first, then those of inv(R).
+    let book = encode(2, &[(R, vec![inv(R)]), (R, vec![S, R]), (S, vec![S, S])]);
+    let Tables { heads, moves } = tables(&book);
+    assert_eq!(heads, [0, 6]);
+    let by_hand = [
+        [0, 0, 1],
+        [0, 1, 1],
+        [0, 128, 2],
+        [2, 2, 3],
+        [3, 128, 2],
+        [3, 128, 0],
+        [1, 128, 4],
+        [4, 3, 5],
+        [5, 128, 4],
+        [5, 128, 1],
+        [6, 2, 7],
+        [7, 128, 6],
+    ];
+    assert_eq!(moves, by_hand.as_flattened());
+}
+
+/// A book of two names with this many states, an even number from 4.
+fn sized(states: usize) -> Vec<u8> {
+    let mut copies = states / 2 - 2;
+    let mut rules = Vec::new();
+    while copies > 0 {
+        let length = copies.min(8);
+        let number = rules.len() as u8;
+        let left: Vec<u8> = (0..length).map(|bit| S | number >> bit & 1).collect();
+        rules.push((R, left));
+        copies -= length;
+    }
+    encode(2, &rules)
+}
+
+#[test]
+fn state_limit() {
+    let mut heads = [5; 2];
+    let mut moves = [5; 3 * MAX_TRANSITIONS];
+    let largest = sized(MAX_STATES);
+    let (states, transitions) = build(&largest, &mut heads, &mut moves).unwrap();
+    assert_eq!(states, 2048);
+    assert_eq!(heads, [0, 2046]);
+    assert_eq!(moves[3 * transitions as usize - 3..][..3], [2046, 2, 2047]);
+    let (mut heads, mut moves) = ([5; 2], [5; 3 * MAX_TRANSITIONS]);
+    let over = sized(MAX_STATES + 2);
+    assert_eq!(first(build(&over, &mut heads, &mut moves)), (9, 0));
+    assert_eq!((heads, moves), ([5; 2], [5; 3 * MAX_TRANSITIONS]));
+    // Sizes far beyond any number type: each name has eight of the one below.
+    let tower: Vec<_> = (1..64).map(|name| (2 * name, [2 * name - 2; 8])).collect();
+    assert_eq!(first(build(&encode(64, &tower), &mut [], &mut [])), (9, 0));
+}
+
+#[test]
+fn lent_tables() {
+    for heads_lent in 0..8 {
+        for moves_lent in 0..60 {
+            let (mut heads, mut moves) = (vec![9; heads_lent], vec![9; moves_lent]);
+            let result = build(HALL, &mut heads, &mut moves);
+            if heads_lent < 4 || moves_lent < 54 {
+                assert_eq!(first(result), (11, 0));
+                assert!(heads.iter().chain(&moves).all(|&number| number == 9));
+            } else {
+                assert_eq!(result, Ok((16, 18)));
+                assert!(heads[4..]
+                    .iter()
+                    .chain(&moves[54..])
+                    .all(|&number| number == 9));
+            }
+        }
+    }
+    // A refused question leaves the tables as the build left them.
+    let (mut heads, mut moves) = ([9; 5], [9; 60]);
+    let refusal = derived(HALL, &mut heads, &mut moves, DUE, &[]).unwrap_err();
+    assert_eq!(refusal, Cause::ChainLength.into());
+    assert_eq!(heads, [0, 2, 6, 8, 9]);
+    assert_eq!(moves[51..], [15, 128, 9, 9, 9, 9, 9, 9, 9]);
+}
+
+#[test]
+fn question_limits() {
+    let chain = [0];
+    assert_eq!(refused(&[], &[], 0, &chain), 12);
+    assert_eq!(refused(&[0; 65], &[], 0, &chain), 12);
+    assert_eq!(ask(&[0; 64], &[], 127, &chain), Ok(false));
+    assert_eq!(refused(&[0; 64], &[], 128, &chain), 14);
+    assert_eq!(refused(&[2047], &[], 0, &chain), 12);
+    assert_eq!(ask(&[2046], &[2046, 0, 2047], 0, &chain), Ok(true));
+    assert_eq!(refused(&[0], &[0, 0, 1, 0], 0, &chain), 12);
+    assert_eq!(refused(&[0], &[0, 0, 1, 0, 0], 0, &chain), 12);
+    assert_eq!(ask(&[0], &[0; 15360], 0, &chain), Ok(false));
+    assert_eq!(refused(&[0], &[0; 15363], 0, &chain), 12);
+    assert_eq!(refused(&[0], &[2048, 0, 1], 0, &chain), 12);
+    assert_eq!(refused(&[0], &[0, 0, 2048], 0, &chain), 12);
+    assert_eq!(refused(&[0], &[0, 129, 1], 0, &chain), 12);
+    assert_eq!(ask(&[0], &[0, 127, 1], 0, &chain), Ok(false));
+    // Causes go 12, 13, 14.
+    assert_eq!(refused(&[0], &[0, 129, 1], 9, &[]), 12);
+    assert_eq!(refused(&[0], &[0, 128, 1], 9, &[]), 13);
+    assert_eq!(refused(&[0], &[0, 128, 1], 0, &[0; 1025]), 13);
+    assert_eq!(ask(&[0], &[0, 0, 1, 1, 128, 0], 0, &[0; 1024]), Ok(true));
+    assert_eq!(ask(&[0], &[0, 0, 1, 1, 128, 0], 1, &[0; 1024]), Ok(false));
+    assert_eq!(ask(&[0], &[0, 0, 1, 1, 128, 0], 1, &[1; 1024]), Ok(true));
+    assert_eq!(refused(&[0], &[], 2, &chain), 14);
+    assert_eq!(refused(&[0], &[], 0, &[0, 2]), 14);
+    // The empty path spells no link; silent cycles end.
+    assert_eq!(ask(&[0], &[0, 128, 1, 1, 128, 0], 0, &chain), Ok(false));
+}
+
+#[test]
+fn many_questions_to_one_index() {
+    let Tables { heads, moves } = tables(HALL);
+    let mut indexed = Indexed::new(&heads, &moves).unwrap();
+    for links in 1..=1024 {
+        let mut chain = vec![PART; links];
+        assert_eq!(indexed.ask(PART, &chain), Ok(true));
+        chain[links - 1] = SITS;
+        assert_eq!(indexed.ask(SITS, &chain), Ok(true));
+        assert_eq!(indexed.ask(PART, &chain), Ok(false));
+    }
+}
