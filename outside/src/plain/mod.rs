@@ -6,6 +6,7 @@ pub mod book;
 pub mod completion;
 pub mod intervals;
 pub mod order;
+pub mod paths;
 pub mod program;
 pub mod query;
 pub mod refusal;

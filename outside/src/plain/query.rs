@@ -89,28 +89,24 @@ fn check_chain(heads: &[u16], role: u8, chain: &[u8]) -> Result<(), Refusal> {
     Ok(())
 }
 
-/// The transitions by the state that they leave, as linked lists: one of letters and one of epsilons for each state.
-/// An entry is the number of a transition plus 1, and 0 ends a list.
+/// The transitions by the state that they leave, as linked lists: for each state one of letters and one of epsilons,
+/// side by side so that no branch depends on the label. An entry is the number of a transition plus 1; 0 ends a list.
 struct Index<const STATES: usize, const TRANSITIONS: usize> {
-    letters: [u16; STATES],
-    epsilons: [u16; STATES],
+    first: [[u16; 2]; STATES],
     next: [u16; TRANSITIONS],
 }
+
+const LETTERS: usize = 0;
+const EPSILONS: usize = 1;
 
 impl<const STATES: usize, const TRANSITIONS: usize> Index<STATES, TRANSITIONS> {
     fn new(transitions: &[[u16; 3]]) -> Self {
         let mut index = Index {
-            letters: [0; STATES],
-            epsilons: [0; STATES],
+            first: [[0; 2]; STATES],
             next: [0; TRANSITIONS],
         };
         for (number, &[from, label, _]) in transitions.iter().enumerate() {
-            let lists = if label == EPSILON {
-                &mut index.epsilons
-            } else {
-                &mut index.letters
-            };
-            let first = &mut lists[usize::from(from)];
+            let first = &mut index.first[usize::from(from)][usize::from(label == EPSILON)];
             index.next[number] = *first;
             *first = number as u16 + 1;
         }
@@ -197,7 +193,7 @@ impl<const STATES: usize> Active<STATES> {
         };
         let mut reached = 0;
         for &state in &now[..count] {
-            let mut entry = index.letters[usize::from(state)];
+            let mut entry = index.first[usize::from(state)][LETTERS];
             while entry != 0 {
                 let number = usize::from(entry) - 1;
                 let [_, label, to] = transitions[number];
@@ -222,7 +218,7 @@ impl<const STATES: usize> Active<STATES> {
         let set = &mut self.sets[self.newest];
         let mut done = 0;
         while done < count {
-            let mut entry = index.epsilons[usize::from(set[done])];
+            let mut entry = index.first[usize::from(set[done])][EPSILONS];
             while entry != 0 {
                 let number = usize::from(entry) - 1;
                 let [_, _, to] = transitions[number];

@@ -1,0 +1,7 @@
+//! What one case of each trial tries.
+#![forbid(unsafe_code)]
+
+pub mod books;
+pub mod damage;
+pub mod lent;
+pub mod tables;

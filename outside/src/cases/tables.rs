@@ -1,0 +1,200 @@
+//! Cases with tables that no book gave: at and past each limit of cause 12, dense graphs, silent cycles.
+
+use crate::chains::MOST_LINKS;
+use crate::plain::paths;
+use crate::random::Random;
+use crate::trial::{hex, Trial};
+
+/// Tables and a question.
+#[derive(Clone)]
+struct Question {
+    heads: Vec<u16>,
+    moves: Vec<u16>,
+    role: u8,
+    chain: Vec<u8>,
+}
+
+impl Question {
+    fn put(&self, trial: &mut Trial) -> u64 {
+        let reply = trial.ask(&self.heads, &self.moves, self.role, &self.chain);
+        reply.first
+    }
+
+    /// A random place among the moves for this part of a triple.
+    fn place(&self, random: &mut Random, part: usize) -> Option<usize> {
+        let triples = self.moves.len() / 3;
+        (triples > 0).then(|| 3 * random.below(triples) + part)
+    }
+}
+
+/// Draws what a graph is like: how many states, moves, labels and silent moves, so that paths are neither rare nor
+/// everywhere.
+fn draw(random: &mut Random) -> Question {
+    let names = random.pick(&[1, 1, 2, 3, 5, 63, 64]);
+    let states = random.pick(&[2, 3, 5, 12, 64, 65, 300, 2048]);
+    let labels = random.between(1, (2 * names).min(6));
+    let silent = random.pick(&[0, 10, 40, 90]);
+    let count = match random.below(6) {
+        0 => random.below(8),
+        1 => random.pick(&[64, 192, 193, 5120]),
+        _ => (states * random.between(1, 6) / 2).min(5120),
+    };
+    let mut moves = Vec::with_capacity(3 * count);
+    for _ in 0..count {
+        let label = match random.percent(silent) {
+            true => 128,
+            false => random.below(labels),
+        };
+        let (from, to) = (random.below(states), random.below(states));
+        moves.extend([from, label, to].map(|number| number as u16));
+    }
+    let heads = (0..names)
+        .map(|_| random.below(states).min(2046) as u16)
+        .collect();
+    let links = match random.below(12) {
+        0 => random.pick(&[MOST_LINKS - 1, MOST_LINKS]),
+        1 => random.between(1, 200),
+        _ => random.between(1, 12),
+    };
+    Question {
+        heads,
+        moves,
+        role: random.below(2 * names) as u8,
+        chain: (0..links).map(|_| random.below(labels) as u8).collect(),
+    }
+}
+
+/// A random graph, asked as drawn, about the inverse, and about each link alone.
+pub fn graph(trial: &mut Trial, random: &mut Random) {
+    let mut question = draw(random);
+    let answer = question.put(trial);
+    if question.chain.len() * question.moves.len() < 5_000 {
+        let Question {
+            heads,
+            moves,
+            role,
+            chain,
+        } = &question;
+        let slow = paths::ask(heads, moves, *role, chain);
+        let input = [("role", hex(&[*role])), ("chain", hex(chain))];
+        trial.check(u64::from(slow) == answer, "ask and paths differ", &input);
+        trial.count("questions by paths", 1);
+    }
+    question.role ^= 1;
+    question.put(trial);
+    question.chain = question.chain.iter().rev().map(|link| link ^ 1).collect();
+    if question
+        .chain
+        .iter()
+        .all(|link| usize::from(*link) < 2 * question.heads.len())
+    {
+        let inverse = question.put(trial);
+        let input = [("chain", hex(&question.chain))];
+        trial.check(inverse == answer, "the inverse question differs", &input);
+    }
+    question.chain.truncate(1);
+    question.put(trial);
+}
+
+/// A graph with one thing at or just past a limit.
+pub fn limit(trial: &mut Trial, random: &mut Random) {
+    let mut question = draw(random);
+    let heads = question.heads.len();
+    match random.below(9) {
+        0 => {
+            let length = random.pick(&[0, 1, 63, 64, 65]);
+            question.heads.resize(length, 0);
+        }
+        1 => {
+            let place = random.below(heads);
+            question.heads[place] = random.pick(&[2045, 2046, 2047, 2048, 0xFFFF]);
+        }
+        2 => {
+            let length = random.pick(&[15357, 15360, 15361, 15362, 15363, 15366]);
+            question.moves.resize(length, 0);
+        }
+        3 => {
+            let length = question.moves.len() + random.between(1, 2);
+            question.moves.resize(length, 0);
+        }
+        4 | 5 => {
+            let part = random.pick(&[0, 2]);
+            if let Some(place) = question.place(random, part) {
+                question.moves[place] = random.pick(&[2046, 2047, 2048, 2049, 0x8000, 0xFFFF]);
+            }
+        }
+        6 => {
+            if let Some(place) = question.place(random, 1) {
+                question.moves[place] = random.pick(&[127, 128, 129, 256, 0x8000, 0xFFFF]);
+            }
+        }
+        7 => {
+            let length = random.pick(&[0, 1, MOST_LINKS, MOST_LINKS + 1, 2000]);
+            question.chain.resize(length, 0);
+        }
+        _ => {
+            let past = (2 * heads + random.below(3) - 1) as u8;
+            match random.below(2) {
+                0 => question.role = past,
+                _ => question.chain[0] = past,
+            }
+        }
+    }
+    // At times a second thing is wrong, and the first cause in order is the answer.
+    if random.percent(30) {
+        match random.below(3) {
+            0 => question.role = random.byte(),
+            1 => question.chain.clear(),
+            _ => question.moves.push(129),
+        }
+    }
+    question.put(trial);
+}
+
+/// Long silent cycles with a few letters between them, and all states active for many links.
+pub fn cycle(trial: &mut Trial, random: &mut Random) {
+    let states = random.pick(&[2, 64, 65, 500, 2048]) as u16;
+    let mut moves = Vec::new();
+    for state in 0..states {
+        moves.extend([state, 128, (state + 1) % states]);
+    }
+    let letters = random.between(0, 3);
+    for _ in 0..letters {
+        let from = random.below(usize::from(states)) as u16;
+        let to = random.below(usize::from(states)) as u16;
+        moves.extend([from, random.below(2) as u16, to]);
+    }
+    // In reverse, silent moves are met in the order that is worst for one pass over the moves.
+    if random.percent(50) {
+        moves = moves.rchunks(3).flatten().copied().collect();
+    }
+    let links = random.pick(&[1, 2, 40, MOST_LINKS]);
+    let question = Question {
+        heads: vec![random.below(usize::from(states) - 1) as u16],
+        moves,
+        role: random.below(2) as u8,
+        chain: (0..links).map(|_| random.below(2) as u8).collect(),
+    };
+    question.put(trial);
+    let same = Question {
+        chain: vec![question.chain[0]; links],
+        ..question
+    };
+    same.put(trial);
+}
+
+/// Every role byte, asked and as the only link, for tables of so many heads.
+pub fn roles(trial: &mut Trial, random: &mut Random, heads: usize) {
+    let mut moves = Vec::new();
+    for label in 0..=128 {
+        moves.extend([random.below(2) as u16, label, random.below(2) as u16]);
+    }
+    let heads = vec![0; heads];
+    for role in 0..=255 {
+        for link in [role, role ^ 1, 0, random.byte()] {
+            trial.ask(&heads, &moves, role, &[link]);
+            trial.ask(&heads, &moves, 0, &[role, link]);
+            trial.ask(&heads, &moves, 1, &[link, role]);
+        }
+    }
+}

@@ -1,0 +1,30 @@
+//! Books from a seed, with chains derived, nearly derived and random: the archive beside the plain engine and the two
+//! other membership methods.
+
+use outside::cases::books;
+use outside::trial::run;
+
+#[test]
+fn valid_books() {
+    run("valid_books", 1500, books::valid);
+}
+
+#[test]
+fn near_state_limit() {
+    run("near_state_limit", 400, books::near_limit);
+}
+
+#[test]
+fn over_state_limit() {
+    run("over_state_limit", 500, books::over_limit);
+}
+
+#[test]
+fn without_order() {
+    run("without_order", 5000, books::without_order);
+}
+
+#[test]
+fn any_rules() {
+    run("any_rules", 10_000, books::any_rules);
+}

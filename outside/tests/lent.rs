@@ -1,0 +1,31 @@
+//! Lent tables of every length from 0 to past what is needed.
+
+use outside::books::{encode, HALL};
+use outside::cases::lent;
+use outside::trial::{run, run_exactly};
+
+#[test]
+fn every_pair() {
+    run_exactly("every_pair", 1, |trial, _| {
+        lent::every_pair(trial, HALL);
+        lent::every_pair(trial, &encode(1, &[] as &[(u8, Vec<u8>)]));
+        lent::every_pair(trial, &encode(64, &[(0, [2, 3]), (126, [126, 126])]));
+    });
+}
+
+#[test]
+fn every_length() {
+    run("every_length", 10, |trial, random| {
+        let states = 2 * random.between(10, 400) as u64;
+        let book = lent::sized(random, states);
+        lent::every_length(trial, &book);
+    });
+}
+
+#[test]
+fn every_length_of_largest() {
+    run("every_length_of_largest", 1, |trial, random| {
+        let book = lent::sized(random, 2048);
+        lent::every_length(trial, &book);
+    });
+}

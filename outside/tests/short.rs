@@ -1,0 +1,146 @@
+//! A short selection: document 01's own examples with the numbers that it gives, then a little of every other trial.
+
+use outside::archive::{self, Reply};
+use outside::books::{encode, fullest, longest, HALL};
+use outside::cases::{books, damage, lent, tables};
+use outside::trial::run_exactly;
+
+fn accepted(first: u64, second: u64) -> Reply {
+    Reply {
+        cause: 0,
+        first,
+        second,
+    }
+}
+
+fn refused(cause: u64, value: u64) -> Reply {
+    Reply {
+        cause,
+        first: value,
+        second: 0,
+    }
+}
+
+#[rustfmt::skip]
+const HALL_MOVES: [u16; 54] = [
+    0, 0, 1,  1, 128, 0,
+    2, 2, 3,  2, 128, 4,  4, 0, 5,  5, 128, 4,  5, 128, 2,
+    6, 4, 7,
+    8, 6, 9,  8, 128, 10,  10, 2, 11,  10, 128, 12,  12, 0, 13,  13, 128, 12,  13, 128, 10,
+    11, 128, 14,  14, 4, 15,  15, 128, 9,
+];
+
+#[test]
+fn hall() {
+    assert_eq!(archive::read(HALL), accepted(4, 3));
+    assert_eq!(archive::order(HALL), accepted(4, 3));
+    let (mut heads, mut moves) = ([99; 6], [99; 60]);
+    let reply = archive::build(HALL, &mut heads, &mut moves);
+    assert_eq!(reply, accepted(16, 18));
+    assert_eq!(heads, [0, 2, 6, 8, 99, 99]);
+    assert_eq!(moves[..54], HALL_MOVES);
+    assert_eq!(moves[54..], [99; 6]);
+    let questions: [(u8, &[u8], Reply); 7] = [
+        (6, &[0, 0, 2, 4], accepted(1, 0)),
+        (6, &[2, 0, 4], accepted(0, 0)),
+        (7, &[5, 3, 1], accepted(1, 0)),
+        (6, &[], refused(13, 0)),
+        (6, &[8], refused(14, 0)),
+        (6, &[6], accepted(1, 0)),
+        (2, &[0], accepted(0, 0)),
+    ];
+    for (role, chain, owed) in questions {
+        let reply = archive::ask(&heads[..4], &moves[..54], role, chain);
+        assert_eq!(reply, owed);
+        let (mut heads, mut moves) = ([99; 4], [99; 54]);
+        let reply = archive::derived(HALL, &mut heads, &mut moves, role, chain);
+        assert_eq!(reply, owed);
+        assert_eq!((heads, moves), ([0, 2, 6, 8], HALL_MOVES));
+    }
+}
+
+#[test]
+fn worked_books() {
+    const R: u8 = 0;
+    const S: u8 = 2;
+    let no_rule: &[(u8, Vec<u8>)] = &[];
+    let order = |names, rules: &[(u8, Vec<u8>)]| archive::order(&encode(names, rules));
+    assert_eq!(order(1, &[(R, vec![R])]), refused(8, 0));
+    assert_eq!(order(2, &[(R, vec![S]), (S, vec![R])]), refused(8, 1));
+    assert_eq!(
+        order(1, &[(R, vec![R ^ 1]), (R ^ 1, vec![R])]),
+        refused(7, 1)
+    );
+    assert_eq!(order(2, &[(R, vec![R, S, R])]), refused(8, 0));
+    assert_eq!(order(2, &[(R, vec![R, R ^ 1])]), refused(8, 0));
+    assert_eq!(order(0, no_rule), refused(4, 0));
+    assert_eq!(order(2, &[(R, vec![S; 8])]), accepted(2, 1));
+    assert_eq!(order(2, &[(R, vec![S; 9])]), refused(5, 0));
+    let (mut heads, mut moves) = ([99; 1], [99; 3]);
+    let reply = archive::build(&encode(1, no_rule), &mut heads, &mut moves);
+    assert_eq!(reply, accepted(2, 1));
+    assert_eq!((heads, moves), ([0], [0, 0, 1]));
+    let derived = |rules: &[(u8, Vec<u8>)], role, chain: &[u8]| {
+        let book = encode(2, rules);
+        archive::derived(&book, &mut [0; 2], &mut [0; 300], role, chain)
+    };
+    let symmetric = [(R, vec![R ^ 1]), (R, vec![S, R])];
+    assert_eq!(derived(&symmetric, R, &[R, S ^ 1]), accepted(1, 0));
+    let exactly = [(R, vec![S, S ^ 1, S])];
+    assert_eq!(derived(&exactly, R, &[S]), accepted(0, 0));
+    let form3 = [(S, vec![R, S])];
+    assert_eq!(derived(&form3, S, &[R, S]), accepted(1, 0));
+    assert_eq!(derived(&form3, S, &[S, R]), accepted(0, 0));
+    let form2 = [(S, vec![S, R])];
+    assert_eq!(derived(&form2, S, &[R, S]), accepted(0, 0));
+    assert_eq!(derived(&form2, S, &[S, R]), accepted(1, 0));
+}
+
+#[test]
+fn a_little_of_books() {
+    run_exactly("valid", 100, books::valid);
+    run_exactly("near_limit", 30, books::near_limit);
+    run_exactly("over_limit", 30, books::over_limit);
+    run_exactly("without_order", 300, books::without_order);
+    run_exactly("any_rules", 500, books::any_rules);
+}
+
+#[test]
+fn a_little_of_damage() {
+    run_exactly("every_byte_of_hall", 1, |trial, random| {
+        for place in 0..HALL.len() {
+            damage::byte(trial, random, HALL, place, 0..=255);
+        }
+    });
+    run_exactly("front_parts", 1, |trial, random| {
+        for book in [HALL.to_vec(), longest(random), fullest(random)] {
+            damage::front_parts(trial, random, &book);
+        }
+    });
+    run_exactly("every_length", 1, |trial, random| {
+        for length in 0..=2700 {
+            damage::length(trial, random, length);
+        }
+    });
+}
+
+#[test]
+fn a_little_of_lent_tables() {
+    run_exactly("every_pair", 1, |trial, random| {
+        lent::every_pair(trial, HALL);
+        let book = lent::sized(random, 100);
+        lent::every_length(trial, &book);
+    });
+}
+
+#[test]
+fn a_little_of_tables() {
+    run_exactly("graphs", 300, tables::graph);
+    run_exactly("limits", 1000, tables::limit);
+    run_exactly("silent_cycles", 20, tables::cycle);
+    run_exactly("role_bytes", 1, |trial, random| {
+        for heads in [1, 2, 64] {
+            tables::roles(trial, random, heads);
+        }
+    });
+}
