@@ -105,10 +105,14 @@ pub fn any_rules(trial: &mut Trial, random: &mut Random) {
     questions(trial, random, &draft, &tables, 3);
 }
 
-/// Reads, checks and builds a book, with tables lent that are long enough or a little too short.
+/// Reads, checks and builds a book, with tables lent that are long enough, a little too short or empty. What is wrong
+/// with a book comes before what is wrong with the tables, and that before what is wrong with a question.
 fn everything(trial: &mut Trial, random: &mut Random, book: &[u8]) -> Option<Tables> {
     trial.read(book);
     trial.order(book);
+    trial.build(book, 0, 0);
+    trial.build(book, 0, 15360);
+    trial.derived(book, 64, 0, 255, &[]);
     let tables = trial.build(book, 64, 15360)?;
     let (heads, moves) = (tables.heads.len(), tables.moves.len());
     let heads_lent = (heads + random.below(4)).saturating_sub(1);

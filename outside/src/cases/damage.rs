@@ -10,6 +10,7 @@ pub fn any_book(trial: &mut Trial, random: &mut Random, book: &[u8]) {
     let ordered = trial.order(book).cause == 0;
     let moves = if ordered { 15360 } else { 100 };
     trial.build(book, 64, moves);
+    trial.build(book, 0, 0);
     let role = random.below(8) as u8;
     let chain = [role, random.below(8) as u8];
     trial.derived(book, 64, moves, role, &chain[random.below(2)..]);

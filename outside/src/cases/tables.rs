@@ -19,12 +19,6 @@ impl Question {
         let reply = trial.ask(&self.heads, &self.moves, self.role, &self.chain);
         reply.first
     }
-
-    /// A random place among the moves for this part of a triple.
-    fn place(&self, random: &mut Random, part: usize) -> Option<usize> {
-        let triples = self.moves.len() / 3;
-        (triples > 0).then(|| 3 * random.below(triples) + part)
-    }
 }
 
 /// Draws what a graph is like: how many states, moves, labels and silent moves, so that paths are neither rare nor
@@ -96,51 +90,26 @@ pub fn graph(trial: &mut Trial, random: &mut Random) {
     question.put(trial);
 }
 
-/// A graph with one thing at or just past a limit.
+/// A graph with one thing at or just past a limit; at times a second thing is wrong, and the first cause in order is the
+/// answer.
 pub fn limit(trial: &mut Trial, random: &mut Random) {
     let mut question = draw(random);
-    let heads = question.heads.len();
     match random.below(9) {
-        0 => {
-            let length = random.pick(&[0, 1, 63, 64, 65]);
-            question.heads.resize(length, 0);
-        }
-        1 => {
-            let place = random.below(heads);
-            question.heads[place] = random.pick(&[2045, 2046, 2047, 2048, 0xFFFF]);
-        }
-        2 => {
-            let length = random.pick(&[15357, 15360, 15361, 15362, 15363, 15366]);
-            question.moves.resize(length, 0);
-        }
-        3 => {
-            let length = question.moves.len() + random.between(1, 2);
-            question.moves.resize(length, 0);
-        }
-        4 | 5 => {
-            let part = random.pick(&[0, 2]);
-            if let Some(place) = question.place(random, part) {
-                question.moves[place] = random.pick(&[2046, 2047, 2048, 2049, 0x8000, 0xFFFF]);
-            }
-        }
-        6 => {
-            if let Some(place) = question.place(random, 1) {
-                question.moves[place] = random.pick(&[127, 128, 129, 256, 0x8000, 0xFFFF]);
-            }
-        }
+        0 | 1 => heads_at_limit(&mut question, random),
+        2 | 3 => length_at_limit(&mut question, random),
+        4..=6 => move_at_limit(&mut question, random),
         7 => {
             let length = random.pick(&[0, 1, MOST_LINKS, MOST_LINKS + 1, 2000]);
             question.chain.resize(length, 0);
         }
         _ => {
-            let past = (2 * heads + random.below(3) - 1) as u8;
+            let past = (2 * question.heads.len() + random.below(3) - 1) as u8;
             match random.below(2) {
                 0 => question.role = past,
                 _ => question.chain[0] = past,
             }
         }
     }
-    // At times a second thing is wrong, and the first cause in order is the answer.
     if random.percent(30) {
         match random.below(3) {
             0 => question.role = random.byte(),
@@ -149,6 +118,39 @@ pub fn limit(trial: &mut Trial, random: &mut Random) {
         }
     }
     question.put(trial);
+}
+
+/// The number of heads or one of them.
+fn heads_at_limit(question: &mut Question, random: &mut Random) {
+    if random.percent(50) {
+        let length = random.pick(&[0, 1, 63, 64, 65]);
+        question.heads.resize(length, 0);
+    } else {
+        let place = random.below(question.heads.len());
+        question.heads[place] = random.pick(&[2045, 2046, 2047, 2048, 0xFFFF]);
+    }
+}
+
+/// The numbers of the moves: too many, or not in threes.
+fn length_at_limit(question: &mut Question, random: &mut Random) {
+    let length = match random.below(2) {
+        0 => random.pick(&[15357, 15360, 15361, 15362, 15363, 15366]),
+        _ => question.moves.len() + random.between(1, 2),
+    };
+    question.moves.resize(length, 0);
+}
+
+/// A state or a label of a move.
+fn move_at_limit(question: &mut Question, random: &mut Random) {
+    let moves = question.moves.len() / 3;
+    if moves == 0 {
+        return;
+    }
+    let part = random.below(3);
+    question.moves[3 * random.below(moves) + part] = match part {
+        1 => random.pick(&[127, 128, 129, 256, 0x8000, 0xFFFF]),
+        _ => random.pick(&[2046, 2047, 2048, 2049, 0x8000, 0xFFFF]),
+    };
 }
 
 /// Long silent cycles with a few letters between them, and all states active for many links.
