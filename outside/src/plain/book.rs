@@ -92,9 +92,23 @@ impl<'a> Book<'a> {
         }
     }
 
-    /// Cause 7. Keys already met stand in a hash table with open addressing, at most half full; 0 is a free slot.
+    /// Cause 7.
     fn check_repeated(&self) -> Result<(), Refusal> {
-        const SLOTS: usize = 2 * MAX_RULES;
+        const FEW: usize = 16;
+        let repeated = if self.rules <= FEW {
+            self.first_repeated::<{ 2 * FEW }>()
+        } else {
+            self.first_repeated::<{ 2 * MAX_RULES }>()
+        };
+        match repeated {
+            Some(number) => Err(Refusal::at(Cause::RepeatedRule, number)),
+            None => Ok(()),
+        }
+    }
+
+    /// The first rule whose key was met before. The keys stand in a hash table with open addressing, at most half full
+    /// and a power of two in size; 0 is a free slot.
+    fn first_repeated<const SLOTS: usize>(&self) -> Option<usize> {
         let mut slots = [0u64; SLOTS];
         for number in 0..self.rules {
             let key = key(self.rule(number));
@@ -102,13 +116,13 @@ impl<'a> Book<'a> {
             let mut slot = hash as usize;
             while slots[slot] != 0 {
                 if slots[slot] == key {
-                    return Err(Refusal::at(Cause::RepeatedRule, number));
+                    return Some(number);
                 }
                 slot = (slot + 1) % SLOTS;
             }
             slots[slot] = key;
         }
-        Ok(())
+        None
     }
 }
 

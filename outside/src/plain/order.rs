@@ -42,6 +42,7 @@ impl Form {
 pub fn check(book: &Book) -> Result<(), Refusal> {
     // The names below each name, closed under transitivity.
     let mut below = [0u64; MAX_NAMES];
+    let below = &mut below[..book.names()];
     for number in 0..book.rules() {
         let rule = book.rule(number);
         let right = usize::from(rule.right >> 1);

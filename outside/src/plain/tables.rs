@@ -73,7 +73,7 @@ impl<'a> Fragments<'a> {
         for number in 0..book.rules() {
             fragments.first_row[usize::from(book.rule(number).right >> 1) + 1] += 1;
         }
-        for name in 0..MAX_NAMES {
+        for name in 0..book.names() {
             fragments.first_row[name + 1] += fragments.first_row[name];
         }
         let mut next = fragments.first_row;
