@@ -1,7 +1,9 @@
-//! Links the proved archive from the folder that RABBITSTEEL_LIB_DIR names, or else from ../target/staticlib.
+//! Links the proved archive from the folder that RABBITSTEEL_LIB_DIR names, or else from ../target/staticlib, and
+//! where RE2's header is found compiles the bench's way to it.
 
 use std::env;
-use std::path::PathBuf;
+use std::path::{Path, PathBuf};
+use std::process::Command;
 
 const LIB_DIR: &str = "RABBITSTEEL_LIB_DIR";
 const ARCHIVE: &str = "librabbitsteel.a";
@@ -10,6 +12,7 @@ fn main() {
     println!("cargo::rerun-if-changed=build.rs");
     if env::var_os("CARGO_FEATURE_ARCHIVE").is_some() {
         link_archive();
+        link_re2();
     }
 }
 
@@ -29,4 +32,29 @@ fn link_archive() {
     let folder = archive.parent().expect("a file stands in a folder");
     println!("cargo::rustc-link-search=native={}", folder.display());
     println!("cargo::rustc-link-lib=static=rabbitsteel");
+}
+
+fn link_re2() {
+    println!("cargo::rustc-check-cfg=cfg(re2)");
+    println!("cargo::rerun-if-changed=shim/re2.cc");
+    let folders = ["/usr/include", "/usr/local/include"];
+    if !folders
+        .iter()
+        .any(|folder| Path::new(folder).join("re2/re2.h").exists())
+    {
+        return;
+    }
+    let object = Path::new(&env::var_os("OUT_DIR").expect("cargo names a folder")).join("re2.o");
+    let compiled = Command::new("c++")
+        .args(["-std=c++17", "-O2", "-c", "shim/re2.cc", "-o"])
+        .arg(&object)
+        .status();
+    if !compiled.is_ok_and(|status| status.success()) {
+        println!("cargo::warning=shim/re2.cc does not compile: no rows beside RE2");
+        return;
+    }
+    println!("cargo::rustc-cfg=re2");
+    for word in [&*object.to_string_lossy(), "-lre2", "-lstdc++"] {
+        println!("cargo::rustc-link-arg-benches={word}");
+    }
 }
