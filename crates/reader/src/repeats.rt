@@ -1,19 +1,21 @@
-// Cause 7 of document 01: a rule that equals an earlier rule or the inverse of one.
-ghost use mathlib.Core.Bool.{true, not, _||_};
+// Cause 7 of document 01: a rule that equals an earlier rule or the inverse of one. Each rule has a number, its key, which it shares with its inverse
+// alone. The keys met so far stand in one array, by the numbers of their rules. Lists of the rules whose keys have the same remainder by 251 run through
+// another: an entry is one more than a rule's number, or 0 for none; at b stands the last rule with the remainder b, at 256 + k the last one before rule k
+// with the same remainder.
+ghost use mathlib.Core.Bool.{not};
 ghost use mathlib.Core.Path.{_≡_};
-ghost use Prim.Native.Nat.{ℕ, _+_, _<_, _≤_};
-ghost use lib.ListN.{length, take, drop};
-ghost use Rattle.roles.specs.Role.{inv-chain, same-chain};
-ghost use Rattle.roles.specs.Rule.{same-rule};
-ghost use Rattle.roles.specs.Rule.{inverse as inverse-of};
+ghost use Prim.Native.Nat.{_+_, _^_, _<_, _≤_};
+ghost use lib.ListN.{length, set};
+ghost use Rattle.roles.specs.Role.{inv-chain};
 ghost use Rattle.format.specs.Result.{map-result};
 ghost use Rattle.format.specs.Result.Result.{accepted};
-ghost use Rattle.format.specs.Format.{repeats};
 ghost use Rattle.format.specs.Format.{decode as decode-of, read as read-of};
-ghost use Rattle.format.specs.Place.{rule-place, whole-at, first-rules};
+ghost use Rattle.keys.specs.Key.{turn, Small, Short};
+ghost use Rattle.keys.specs.Key.{code as code-of, key as key-of};
 ghost use Rattle.refusals.specs.Check.{check};
 ghost use Rattle.decoder.specs.Verdict.{header-of, says};
 ghost use Rattle.cursor.specs.Cursor.{entry-rule};
+ghost use Rattle.reader.specs.Entered.{Entered, among};
 use cursor::Cursor;
 use cursor::Entry;
 use cursor::Step;
@@ -22,6 +24,8 @@ use decoder::Verdict;
 use refusals::Check;
 use refusals::Refusal;
 use role_bytes::inverse;
+use role_bytes::is_inverse;
+use role_bytes::name;
 
 // Cause 7, for a book that passes 1 to 6.
 pub(crate) fn distinct(book: &[u8], header: Header) -> Verdict
@@ -29,122 +33,106 @@ pub(crate) fn distinct(book: &[u8], header: Header) -> Verdict
     ensures { λ r. ⌜ says r ≡ map-result header-of (read-of (now (book .entry))) ⌝ }
 {
     let rules = header.rules;
+    let mut keys: [u64; 256] = [0; 256];
+    let mut index: [u16; 512] = [0; 512];
     let mut cursor = Cursor::first();
     let mut later = 0;
     while later < rules {
         let Step::Rule(entry, next) = cursor.step(book) else {
             return Verdict::WellFormed(header); // not reached: causes 1 to 6 passed
         };
-        let Check::Passed = fresh(book, entry, later) else {
+        let own = key(book, entry);
+        let Check::Passed = fresh(&keys, &index, own, later) else {
             return Verdict::Refused(Refusal::Repeated(later));
         };
+        enter(&mut keys, &mut index, own, later);
         cursor = next;
         later += 1;
     }
     Verdict::WellFormed(header)
 }
 
-// Passed where the rule equals none of the first `count` rules and none of their inverses.
-fn fresh(book: &[u8], rule: Entry, count: usize) -> Check
+// The key of a rule.
+fn key(book: &[u8], rule: Entry) -> u64
     requires { ⌜ rule .start + rule .size ≤ length (now book) ⌝ }
-    requires { ⌜ ((k : ℕ) → k < count → whole-at (now book) (rule-place (now book) k) ≡ true) ⌝ }
-    ensures { λ r. ⌜ r ≡ check (not (repeats (entry-rule (now (book .entry)) rule) (first-rules (now (book .entry)) count))) ⌝ }
+    requires { ⌜ Short (entry-rule (now book) rule) ⌝ }
+    ensures { λ r. ⌜ r ≡ key-of (entry-rule (now (book .entry)) rule) ⌝ }
 {
-    let mut cursor = Cursor::first();
-    let mut number = 0;
-    while number < count {
-        let Step::Rule(earlier, next) = cursor.step(book) else {
+    let start = rule.start;
+    let end = start + rule.size;
+    let right = rule.right;
+    let turned = is_inverse(right);
+    64 * code(&book[start..end], turned) + name(right) as u64
+}
+
+// The code of a chain's inverse, or of the chain itself.
+fn code(chain: &[u8], turned: bool) -> u64
+    requires { ⌜ Small (now chain) ⌝ }
+    requires { ⌜ length (now chain) ≤ 8 ⌝ }
+    ensures code { λ r. ⌜ r ≡ code-of (turn turned (now (chain .entry))) ⌝ }
+    ensures below { λ r. ⌜ r < 2 ^ 57 ⌝ }
+{
+    if turned {
+        return inverse_code(chain);
+    }
+    plain_code(chain)
+}
+
+// The code of a chain, from its last role to its first.
+fn plain_code(chain: &[u8]) -> u64
+    requires { ⌜ Small (now chain) ⌝ }
+    requires { ⌜ length (now chain) ≤ 8 ⌝ }
+    ensures { λ r. ⌜ r ≡ code-of (now (chain .entry)) ⌝ }
+{
+    let mut code = 1;
+    let mut i = chain.len();
+    while 0 < i {
+        i -= 1;
+        code = 128 * code + chain[i] as u64;
+    }
+    code
+}
+
+// The code of a chain's inverse, from the chain's first role to its last.
+fn inverse_code(chain: &[u8]) -> u64
+    requires { ⌜ Small (now chain) ⌝ }
+    requires { ⌜ length (now chain) ≤ 8 ⌝ }
+    ensures { λ r. ⌜ r ≡ code-of (inv-chain (now (chain .entry))) ⌝ }
+{
+    let mut code = 1;
+    let mut i = 0;
+    while i < chain.len() {
+        code = 128 * code + inverse(chain[i]) as u64;
+        i += 1;
+    }
+    code
+}
+
+// Passed where the key is none of the first `count`.
+fn fresh(keys: &[u64], index: &[u16], key: u64, count: usize) -> Check
+    requires { ⌜ Entered (now keys) (now index) count ⌝ }
+    ensures { λ r. ⌜ r ≡ check (not (among (now (keys .entry)) count key)) ⌝ }
+{
+    let mut at = index[(key % 251) as usize] as usize;
+    while 0 < at {
+        let k = at - 1;
+        if keys[k] == key {
             return Check::Failed;
-        };
-        let Check::Passed = differ(book, rule, earlier) else {
-            return Check::Failed;
-        };
-        cursor = next;
-        number += 1;
+        }
+        at = index[256 + k] as usize;
     }
     Check::Passed
 }
 
-// Passed where the two rules are neither equal nor inverse to each other.
-fn differ(book: &[u8], a: Entry, b: Entry) -> Check
-    requires { ⌜ a .start + a .size ≤ length (now book) ⌝ }
-    requires { ⌜ b .start + b .size ≤ length (now book) ⌝ }
-    ensures { λ r. ⌜ r ≡ check (not (same-rule (entry-rule (now (book .entry)) a) (entry-rule (now (book .entry)) b)
-        || same-rule (entry-rule (now (book .entry)) a) (inverse-of (entry-rule (now (book .entry)) b)))) ⌝ }
+// Enters one more key, after the first `count`.
+fn enter(keys: &mut [u64], index: &mut [u16], key: u64, count: usize)
+    requires { ⌜ Entered (now keys) (now index) count ⌝ }
+    requires { ⌜ count < 256 ⌝ }
+    ensures keys { λ _. ⌜ now (keys .exit) ≡ set (now (keys .entry)) count key ⌝ }
+    ensures lists { λ _. ⌜ Entered (now (keys .exit)) (now (index .exit)) (count + 1) ⌝ }
 {
-    if same(book, a, b) {
-        return Check::Failed;
-    }
-    if mirrored(book, a, b) {
-        return Check::Failed;
-    }
-    Check::Passed
-}
-
-// Whether the two rules are equal.
-fn same(book: &[u8], a: Entry, b: Entry) -> bool
-    requires { ⌜ a .start + a .size ≤ length (now book) ⌝ }
-    requires { ⌜ b .start + b .size ≤ length (now book) ⌝ }
-    ensures { λ r. ⌜ r ≡ same-rule (entry-rule (now (book .entry)) a) (entry-rule (now (book .entry)) b) ⌝ }
-{
-    let size = a.size;
-    if size != b.size {
-        return false;
-    }
-    if a.right != b.right {
-        return false;
-    }
-    let here = a.start;
-    let there = b.start;
-    same_left(book, here, there, size)
-}
-
-// Whether the first rule is the inverse of the second.
-fn mirrored(book: &[u8], a: Entry, b: Entry) -> bool
-    requires { ⌜ a .start + a .size ≤ length (now book) ⌝ }
-    requires { ⌜ b .start + b .size ≤ length (now book) ⌝ }
-    ensures { λ r. ⌜ r ≡ same-rule (entry-rule (now (book .entry)) a) (inverse-of (entry-rule (now (book .entry)) b)) ⌝ }
-{
-    let size = a.size;
-    if size != b.size {
-        return false;
-    }
-    if a.right != inverse(b.right) {
-        return false;
-    }
-    let here = a.start;
-    let there = b.start;
-    inverse_left(book, here, there, size)
-}
-
-// Whether the chains of `size` links at a and at b are equal.
-fn same_left(book: &[u8], a: usize, b: usize, size: usize) -> bool
-    requires { ⌜ a + size ≤ length (now book) ⌝ }
-    requires { ⌜ b + size ≤ length (now book) ⌝ }
-    ensures { λ r. ⌜ r ≡ same-chain (take size (drop a (now (book .entry)))) (take size (drop b (now (book .entry)))) ⌝ }
-{
-    let mut i = 0;
-    while i < size {
-        if book[a + i] != book[b + i] {
-            return false;
-        }
-        i += 1;
-    }
-    true
-}
-
-// Whether the chain of `size` links at a is the inverse of the one at b.
-fn inverse_left(book: &[u8], a: usize, b: usize, size: usize) -> bool
-    requires { ⌜ a + size ≤ length (now book) ⌝ }
-    requires { ⌜ b + size ≤ length (now book) ⌝ }
-    ensures { λ r. ⌜ r ≡ same-chain (take size (drop a (now (book .entry)))) (inv-chain (take size (drop b (now (book .entry))))) ⌝ }
-{
-    let mut i = 0;
-    while i < size {
-        if book[a + i] != inverse(book[b + (size - 1 - i)]) {
-            return false;
-        }
-        i += 1;
-    }
-    true
+    let bucket = (key % 251) as usize;
+    keys[count] = key;
+    index[256 + count] = index[bucket];
+    index[bucket] = (count + 1) as u16;
 }

@@ -1,77 +1,64 @@
--- `fresh` meets its contract. The invariant: the rule repeats none of the rules passed.
-use mathlib.Core.Bool.{Bool, false, not}
-use mathlib.Core.Path.{_≡_, refl, sym, ap}
-use Prim.Native.Nat.{_≤_, _-_}
+-- `fresh` meets its contract. The invariant: of the keys with the same remainder, those from the entry on are others.
+use mathlib.Core.Bool.{Bool, not}
+use mathlib.Core.Path.{_≡_, sym, ap}
+use Prim.Native.Nat.{_+_, _-_, _%_}
 use native.Mathlib.Omega.{arith}
 use borrow.Author.Needs.{needs}
-use borrow.Author.Tests.{not-true, not-false}
-use Rattle.cursor.specs.Cursor.{entry-rule}
-use Rattle.cursor.specs.CursorLaws.{at-rule, some-rule}
 use Rattle.refusals.specs.Check.{check}
-use Rattle.refusals.specs.Check.{check-passed, check-failed}
-use Rattle.format.specs.Format.{repeats}
-use Rattle.format.specs.Place.{rule-place, first-rules}
-use Rattle.format.specs.RepeatLaws.{repeats-none, repeats-found}
+use Rattle.reader.specs.EnteredLaws.{Walked, walked-start, walked-less, walked-next, walked-found, walked-end}
 use Rattle.reader.proofs.repeats.fresh.Statement.{statement}
 use Rattle.reader.proofs.repeats.fresh.Tie as tie
 
 abbrev Inv-loop : tie.InvT-loop
-Inv-loop book rule count cursor₀ number₀ cursor number = (number ≤ count) × ((cursor .at ≡ rule-place book number) × (repeats (entry-rule book rule) (first-rules book number) ≡ false))
+Inv-loop keys index key count at₀ at = Walked keys count key at
 
 abbrev μ-loop : tie.MeasureT-loop
-μ-loop book rule count cursor₀ number₀ cursor number = count - number
+μ-loop keys index key count at₀ at = at
 
-first-requires : tie.Need-first-requires Inv-loop μ-loop
-first-requires c κs = search needs
+mul-at : tie.Need-mul-at Inv-loop μ-loop
+mul-at c = search needs
+
+shared-slice-read-at : tie.Need-shared-slice-read-at Inv-loop μ-loop
+shared-slice-read-at c = search needs
+
+cast-at : tie.Need-cast-at Inv-loop μ-loop
+cast-at c = omega (arith, c .shared-slice-known .given (c .before .args .key % 251))
 
 loop-holds : tie.Need-loop-holds Inv-loop μ-loop
-unfolding rule-place repeats first-rules
-loop-holds c = (omega arith, (c .first .ensures, refl))
+loop-holds c = walked-start _ _ _ _ (c .before .pre)
 
-step-requires : tie.Need-step-requires Inv-loop μ-loop
-step-requires c κs = search needs
+sub-k : tie.Need-sub-k Inv-loop μ-loop
+sub-k c = search needs
 
-enum-known-earlier : tie.Need-enum-known-earlier Inv-loop μ-loop
-enum-known-earlier c = search needs
+mul-if1 : tie.Need-mul-if1 Inv-loop μ-loop
+mul-if1 c = omega (arith, c .before .loop .inv .low, c .before .before .before .pre .linked .space, c .before .before .before .pre .entries)
 
-enum-told : tie.Need-enum-told Inv-loop μ-loop
-enum-told c = search needs
+shared-slice-read-if1 : tie.Need-shared-slice-read-if1 Inv-loop μ-loop
+shared-slice-read-if1 c = omega (arith, c .before .before .loop .inv .low, c .before .before .before .before .pre .linked .space, c .before .before .before .before .pre .entries, c .before .before .before .before .pre .places)
 
 returns : tie.Need-returns Inv-loop μ-loop
-returns c = absurd (some-rule _ _ _ _ (c .before .before .before .before .loop .inv .1 .0) (c .before .before .before .before .before .before .before .pre .1 (c .before .before .before .before .loop .number) (c .before .before .before .loop-test .taken)) (c .before .before .step .ensures) (c .enum-told .given .1))
+returns c = ap (λ (t : Bool). check (not t)) (sym (walked-found _ _ _ _ (c .before .before .before .before .before .pre) _ (c .before .before .before .loop .inv) (c .before .before .loop-test .taken) (c .if1 .taken)))
 
-differ-requires : tie.Need-differ-requires Inv-loop μ-loop
-differ-requires c κs = (c .before .before .before .before .before .before .before .before .pre .0, at-rule _ _ _ _ _ _ (c .before .before .before .before .before .loop .inv .1 .0) (c .before .before .before .step .ensures) (c .before .earlier .given .1) .fits)
+add-at : tie.Need-add-at Inv-loop μ-loop
+add-at c = omega (arith, c .before .before .before .loop .inv .low, c .before .before .before .before .before .pre .linked .space, c .before .before .before .before .before .pre .entries)
 
-enum-told-2 : tie.Need-enum-told-2 Inv-loop μ-loop
-enum-told-2 c = search needs
+mul-at-2 : tie.Need-mul-at-2 Inv-loop μ-loop
+mul-at-2 c = omega (arith, c .before .before .before .loop .inv .low, c .before .before .before .before .before .pre .linked .space, c .before .before .before .before .before .pre .entries)
 
-enum-told-3 : tie.Need-enum-told-3 Inv-loop μ-loop
-enum-told-3 c = search needs
+shared-slice-read-at-2 : tie.Need-shared-slice-read-at-2 Inv-loop μ-loop
+shared-slice-read-at-2 c = omega (arith, c .before .before .before .before .loop .inv .low, c .before .before .before .before .before .before .pre .linked .space, c .before .before .before .before .before .before .pre .entries)
 
-returns-2 : tie.Need-returns-2 Inv-loop μ-loop
-returns-2 c =
-    let a = at-rule _ _ _ _ _ _ (c .before .before .before .before .before .before .before .before .loop .inv .1 .0) (c .before .before .before .before .before .before .step .ensures) (c .before .before .before .before .earlier .given .1) in
-    ap (λ (t : Bool). check (not t))
-    (sym (repeats-found _ _ _ _ (a .rule) _ (c .before .before .before .before .before .before .before .loop-test .taken) (not-false _ (check-failed _ _ (c .before .before .differ .ensures) (c .enum-told3 .given .1)))))
-
-add-number : tie.Need-add-number Inv-loop μ-loop
-add-number c = search needs
+cast-at-2 : tie.Need-cast-at-2 Inv-loop μ-loop
+cast-at-2 c = omega (arith, c .shared-slice-known3 .given (256 + (c .before .before .before .before .loop .at - 1)))
 
 loop-less : tie.Need-loop-less Inv-loop μ-loop
-loop-less c = search needs
+loop-less c = walked-less _ _ _ _ (c .before .before .before .before .before .before .pre) _ (c .before .before .before .before .loop .inv) (c .before .before .before .loop-test .taken)
 
 loop-again : tie.Need-loop-again Inv-loop μ-loop
-loop-again c =
-    let a = at-rule _ _ _ _ _ _ (c .before .before .before .before .before .before .before .before .loop .inv .1 .0) (c .before .before .before .before .before .before .step .ensures) (c .before .before .before .before .earlier .given .1) in (
-      omega arith,
-      (a .place, repeats-none _ _ _ _ (a .rule) (c .before .before .before .before .before .before .before .before .loop .inv .1 .1) (not-true _ (check-passed _ _ (c .before .before .differ .ensures) (c .enum-told2 .given .1)))),
-    )
+loop-again c = walked-next _ _ _ _ (c .before .before .before .before .before .before .pre) _ (c .before .before .before .before .loop .inv) (c .before .before .before .loop-test .taken) (c .before .if1 .left)
 
-returns-3 : tie.Need-returns-3 Inv-loop μ-loop
-returns-3 c =
-    let e : c .before .loop .number ≡ c .before .before .before .before .args .count = omega arith in
-    ap (λ (t : Bool). check (not t)) (sym (rw e at (c .before .loop .inv .1 .1)))
+returns-2 : tie.Need-returns-2 Inv-loop μ-loop
+returns-2 c = let e : c .before .loop .at ≡ 0 = omega arith in ap (λ (t : Bool). check (not t)) (sym (walked-end _ _ _ _ (c .before .before .before .pre) _ e (c .before .loop .inv)))
 
 pub fresh-spec : {M : Type 1} → statement M
 fresh-spec =
@@ -79,17 +66,18 @@ fresh-spec =
     (tie.spec
     Inv-loop
     μ-loop
-    first-requires
+    mul-at
+    shared-slice-read-at
+    cast-at
     loop-holds
-    step-requires
-    enum-known-earlier
-    enum-told
+    sub-k
+    mul-if1
+    shared-slice-read-if1
     returns
-    differ-requires
-    enum-told-2
-    enum-told-3
-    returns-2
-    add-number
+    add-at
+    mul-at-2
+    shared-slice-read-at-2
+    cast-at-2
     loop-less
     loop-again
-    returns-3)
+    returns-2)
