@@ -1,3 +1,2 @@
 pub mod Cursor
 pub mod CursorLaws
-pub mod EntryLaws
