@@ -1,16 +1,13 @@
 -- Laws of cause 7: repeats among the first rules, and the search for the lowest from a rule on.
-use mathlib.Core.Bool.{Bool, true, false, not, _||_, or-assoc, or-false, or-true}
+use mathlib.Core.Bool.{true, false, _||_, or-assoc, or-false}
 use mathlib.Core.List.{List, [], _∷_, _++_}
-use mathlib.Core.Logic.{_⊎_, inl, inr}
 use mathlib.Core.Path.{_≡_, refl, sym, ap, _∙_}
-use Prim.Native.Nat.{ℕ, zero, suc, _+_, _-_, _<_, _≤_}
+use Prim.Native.Nat.{ℕ, suc, _+_, _<_}
 use native.Mathlib.Numerals.{add-one}
 use native.Mathlib.Omega.{arith}
-use lib.ListN.{length, getD, drop, drop-of-length-le}
+use lib.ListN.{drop, drop-of-length-le}
 use lib.Seq.{drop-cons}
-use Rattle.roles.specs.Tests.{lt-or-le}
-use Rattle.roles.specs.Rule.{Rule, Book, inverse, same-rule}
-use Rattle.format.specs.Result.{Result, demand}
+use Rattle.roles.specs.Rule.{Rule, inverse, same-rule}
 use Rattle.format.specs.Result.Result.{refused, accepted}
 use Rattle.format.specs.Format.{repeats, distinct}
 use Rattle.format.specs.Place.{rule-at, rule-place, first-rules}
@@ -28,23 +25,6 @@ pub repeats-next : (s : List ℕ) (ρ : Rule) (k : ℕ)
     ≡ (repeats ρ (first-rules s k) || (same-rule ρ (rule-at s (rule-place s k)) || same-rule ρ (inverse (rule-at s (rule-place s k)))))
 unfolding first-rules repeats
 repeats-next s ρ k = repeats-append ρ (first-rules s k) (rule-at s (rule-place s k) ∷ []) ∙ rw or-false refl
-
--- a repeat among the first k rules is one among the first m
-pub repeats-more : (s : List ℕ) (ρ : Rule) (k m : ℕ) → k ≤ m → repeats ρ (first-rules s k) ≡ true → repeats ρ (first-rules s m) ≡ true
-repeats-more s ρ k zero h r = let e : k ≡ 0 = omega arith in rw e at r
-repeats-more s ρ k (suc m) h r = by-place (λ (p : k ≤ m). repeats-more s ρ k m p r) (lt-or-le m k)
-  where
-    by-place : (k ≤ m → repeats ρ (first-rules s m) ≡ true) → (m < k) ⊎ (k ≤ m) → repeats ρ (first-rules s (suc m)) ≡ true
-    by-place before (inl p) = let e : k ≡ suc m = omega arith in rw e at r
-    by-place before (inr p) = rw (repeats-next s ρ m, before p) refl
-
--- the search for one rule among the first, as a loop runs it: rule k is σ
-module _ (s : List ℕ) (ρ σ : Rule) (k : ℕ) (e : σ ≡ rule-at s (rule-place s k)) where
-  pub repeats-none : repeats ρ (first-rules s k) ≡ false → (same-rule ρ σ || same-rule ρ (inverse σ)) ≡ false → repeats ρ (first-rules s (k + 1)) ≡ false
-  repeats-none h d = rw (add-one, repeats-next s ρ k, h, ← e) d
-
-  pub repeats-found : (count : ℕ) → k < count → (same-rule ρ σ || same-rule ρ (inverse σ)) ≡ true → repeats ρ (first-rules s count) ≡ true
-  repeats-found count h d = repeats-more s ρ (suc k) count h (rw (repeats-next s ρ k, ← e, d) (or-true (repeats ρ (first-rules s k))))
 
 -- the search for the lowest repeat, as a loop runs it: the whole search is the one from rule k on, after the rules before it
 abbrev pub Searching : List ℕ → (names count k : ℕ) → Type 0

@@ -9,6 +9,26 @@ use lib.Seq.{getD-set-same, getD-set-other}
 use Rattle.roles.specs.Tests.{lt-or-le, eq-or-ne}
 use Rattle.linked.specs.Linked.{Latest, Linked}
 
+-- lists by one key are lists by another that is the same for their items
+module _ (f g : ℕ → ℕ) where
+  latest-same : (x bound entry : ℕ) → ((k : ℕ) → k < bound → f k ≡ g k) → Latest f x bound entry → Latest g x bound entry
+  latest-same x bound entry e h =
+      record {
+        low = h .low;
+        own = λ s. sym (e (entry - 1) (omega (arith, h .low))) ∙ h .own s;
+        none-later = λ k l i d. h .none-later k l i (e k i ∙ d);
+      }
+
+  pub linked-same : (room : ℕ) (index : List ℕ) (n : ℕ) → ((k : ℕ) → k < n → f k ≡ g k) → Linked f room index n → Linked g room index n
+  linked-same room index n e h =
+      record {
+        space = h .space;
+        keys = λ k l. rw (← e k l) (h .keys k l);
+        last = λ x l. latest-same x n (getD index x 0) e (h .last x l);
+        before = λ k l.
+            latest-same (g k) k (getD index (room + k) 0) (λ j i. e j (omega arith)) (rw (← e k l) (h .before k l));
+      }
+
 module _ (key : ℕ → ℕ) (room : ℕ) where
   -- no item is in
   pub linked-none : (index : List ℕ) → room ≤ length index → ((x : ℕ) → x < room → getD index x 0 ≡ 0) → Linked key room index 0

@@ -2,15 +2,15 @@
 use mathlib.Core.Bool.{true, false, or-true}
 use mathlib.Core.List.{List}
 use mathlib.Core.Logic.{_⊎_, inl, inr}
-use mathlib.Core.Path.{_≡_, refl, sym, ap, _∙_}
+use mathlib.Core.Path.{_≡_, refl, sym, ap}
 use Prim.Native.Nat.{ℕ, zero, suc, _+_, _-_, _%_, _<_, _≤_}
 use native.Mathlib.Omega.{arith}
 use borrow.Author.Tests.{eq-eqb, ne-eqb}
 use lib.ListN.{getD, set, replicate, length-set, length-replicate, getD-replicate}
 use lib.Seq.{getD-set-same, getD-set-other}
 use Rattle.roles.specs.Tests.{lt-or-le}
-use Rattle.linked.specs.Linked.{Latest, Linked}
-use Rattle.linked.specs.LinkedLaws.{linked-none, linked-more, next-less, next-own, met}
+use Rattle.linked.specs.Linked.{Latest}
+use Rattle.linked.specs.LinkedLaws.{linked-none, linked-same, linked-more, next-less, next-own, met}
 use Rattle.reader.specs.Entered.{bucket, Entered, among}
 
 pub entered-none : Entered (replicate 256 0) (replicate 512 0) 0
@@ -22,26 +22,6 @@ entered-none =
           linked-none (bucket (replicate 256 0)) 256 (replicate 512 0) (rw (length-replicate {A = ℕ} 512 0) (omega arith))
           (λ x p. getD-replicate {A = ℕ} 512 x 0 0 (omega arith));
     }
-
--- lists by one key are lists by another that is the same for their items
-module _ (f g : ℕ → ℕ) where
-  latest-same : (x bound entry : ℕ) → ((k : ℕ) → k < bound → f k ≡ g k) → Latest f x bound entry → Latest g x bound entry
-  latest-same x bound entry e h =
-      record {
-        low = h .low;
-        own = λ s. sym (e (entry - 1) (omega (arith, h .low))) ∙ h .own s;
-        none-later = λ k l i d. h .none-later k l i (e k i ∙ d);
-      }
-
-  linked-same : (room : ℕ) (index : List ℕ) (n : ℕ) → ((k : ℕ) → k < n → f k ≡ g k) → Linked f room index n → Linked g room index n
-  linked-same room index n e h =
-      record {
-        space = h .space;
-        keys = λ k l. rw (← e k l) (h .keys k l);
-        last = λ x l. latest-same x n (getD index x 0) e (h .last x l);
-        before = λ k l.
-            latest-same (g k) k (getD index (room + k) 0) (λ j i. e j (omega arith)) (rw (← e k l) (h .before k l));
-      }
 
 -- one more key enters
 module _ (keys index : List ℕ) (count x : ℕ) (so-far : Entered keys index count) (space : count < 256) where
