@@ -69,33 +69,36 @@ module _ (s ix : List ℕ) (names : ℕ) (p : Prepared s ix names) where
     pub same-states : r .state ≤ 2048 → r .state ≡ states-of (p .book)
     same-states h = own .within (fits h)
 
-    pub same-count : r .state ≤ 2048 → r .count ≡ count-of (p .book)
-    same-count h = own .exact (fits h) (omega (arith, few (fits h))) .0
+    module _ (wide : length m ≡ 15360) (small : r .state ≤ 2048) where
+      laid : (r .count ≡ count-of (p .book)) × (m′ ≡ sets m 0 (moves-of (p .book))) × (h′ ≡ sets h 0 (heads-of (p .book)))
+      laid = own .exact (fits small) (omega (arith, few (fits small))) (omega (arith, few (fits small), wide))
 
-    module _ (small : r .state ≤ 2048) where
+      pub same-count : r .count ≡ count-of (p .book)
+      same-count = laid .0
+
       -- the first numbers are those of the tables
       first-heads : p .book .names ≤ length h → take names h′ ≡ heads-of (p .book)
       first-heads l =
           let size = length-roots (p .book .rules) (p .book .names) (p .book .names) 0 0 in
-          ap (take names) (own .exact (fits small) (omega (arith, few (fits small))) .2 ∙ sets-over (heads-of (p .book)) h (rw size l))
+          ap (take names) (laid .2 ∙ sets-over (heads-of (p .book)) h (rw size l))
           ∙ take-at (heads-of (p .book)) _ names (size ∙ sym (p .same))
 
       first-moves : 3 * count-of (p .book) ≤ length m → take (3 * r .count) m′ ≡ moves-of (p .book)
       first-moves l =
-          ap (take (3 * r .count)) (own .exact (fits small) (omega (arith, few (fits small))) .1 ∙ sets-over (moves-of (p .book)) m (rw length-numbers l))
-          ∙ take-at (moves-of (p .book)) _ (3 * r .count) (length-numbers _ ∙ ap (λ (k : ℕ). 3 * k) (sym (same-count small)))
+          ap (take (3 * r .count)) (laid .1 ∙ sets-over (moves-of (p .book)) m (rw length-numbers l))
+          ∙ take-at (moves-of (p .book)) _ (3 * r .count) (length-numbers _ ∙ ap (λ (k : ℕ). 3 * k) (sym same-count))
 
     -- what was laid aside and then copied is what a build promises
     pub builds-copied : length h ≡ 64 → length m ≡ 15360 → (g n : List ℕ) → r .state ≤ 2048 → r .count ≤ 5120 → names ≤ length g → 3 * r .count ≤ length n
         → Builds s g n (paste g 0 h′ names) (paste n 0 m′ (3 * r .count)) (Built (record { names = names; states = r .state; transitions = r .count }))
     builds-copied size-heads size-moves g n small few long-heads long-moves =
-        let count : r .count ≡ count-of (p .book) = same-count small in
+        let count : r .count ≡ count-of (p .book) = same-count size-moves small in
         let enough-heads : p .book .names ≤ length g = rw (← p .same) long-heads in
         let enough-moves : 3 * count-of (p .book) ≤ length n = rw (← count) long-moves in
         builds-accepted s g n (paste g 0 h′ names) (paste n 0 m′ (3 * r .count)) (p .book) _
         (built-accepted s (length g) (length n) (p .book) (p .ordered) (fits small) (rw (← count) few) enough-heads enough-moves)
         (rw (p .same, same-states small, count) refl)
-        (pasted (heads-of (p .book)) g h′ names (first-heads small (omega (arith, p .same, p .few, size-heads)))
+        (pasted (heads-of (p .book)) g h′ names (first-heads size-moves small (omega (arith, p .same, p .few, size-heads)))
         (length-roots (p .book .rules) (p .book .names) (p .book .names) 0 0 ∙ sym (p .same)))
-        (pasted (moves-of (p .book)) n m′ (3 * r .count) (first-moves small (omega (arith, count, few, size-moves)))
+        (pasted (moves-of (p .book)) n m′ (3 * r .count) (first-moves size-moves small (omega (arith, count, few, size-moves)))
         (length-numbers _ ∙ ap (λ (k : ℕ). 3 * k) (sym count)))

@@ -2,7 +2,7 @@
 use mathlib.Core.Bool.{Bool, cond}
 use mathlib.Core.List.{List}
 use mathlib.Core.Path.{_≡_}
-use Prim.Native.Nat.{ℕ, _<_, _≤_}
+use Prim.Native.Nat.{ℕ, _*_, _<_, _≤_}
 use lib.ListN.{length, getD}
 use Rattle.roles.specs.Role.{Chain, name, inv-chain}
 use Rattle.roles.specs.Rule.{Rule}
@@ -38,5 +38,6 @@ pub record Roots (ρs : List Rule) (fuel names : ℕ) (r : Place) (heads heads�
   pub within : states-from ρs fuel names 0 ≤ 2048 → r .state ≡ states-from ρs fuel names 0
   pub over : 2048 < states-from ρs fuel names 0 → 2048 < r .state
   pub exact : states-from ρs fuel names 0 ≤ 2048 → length (transitions-from ρs fuel names 0 0) ≤ 60000
+      → 3 * length (transitions-from ρs fuel names 0 0) ≤ length moves
       → (r .count ≡ length (transitions-from ρs fuel names 0 0)) × (moves′ ≡ sets moves 0 (numbers (transitions-from ρs fuel names 0 0)))
       × (heads′ ≡ sets heads 0 (roots-from ρs fuel names 0 0))

@@ -361,7 +361,7 @@ fn shape_at(book: &[u8], at: usize) -> Shape
     shape_of(&book[start..end], right)
 }
 
-// Writes one transition, unless the tables are too large already.
+// Writes one transition, unless the tables are too large already or there is no room for it.
 fn transition(place: Place, from: usize, label: usize, to: usize, moves: &mut [u16]) -> Place
     requires { ⌜ Small place ⌝ }
     requires { ⌜ (from < 65536) × (label < 65536) × (to < 65536) ⌝ }
@@ -377,9 +377,12 @@ fn transition(place: Place, from: usize, label: usize, to: usize, moves: &mut [u
     if 60000 <= count {
         return place;
     }
-    put(moves, 3 * count, from as u16);
-    put(moves, 3 * count + 1, label as u16);
-    put(moves, 3 * count + 2, to as u16);
+    if moves.len() < 3 * count + 3 {
+        return place;
+    }
+    moves[3 * count] = from as u16;
+    moves[3 * count + 1] = label as u16;
+    moves[3 * count + 2] = to as u16;
     Place {
         state: state,
         count: count + 1,

@@ -8,7 +8,7 @@ use native.Mathlib.Nat.{add-zero, zero-add}
 use native.Mathlib.Numerals.{add-one, add-two}
 use native.Mathlib.Omega.{arith}
 use lib.ListN.{length, set, length-append}
-use lib.Seq.{sets}
+use lib.Seq.{sets, length-sets}
 use Rattle.roles.specs.Tests.{lt-or-le}
 use Rattle.roles.specs.Role.{Chain}
 use Rattle.order.specs.Shape.{End, Shape}
@@ -20,7 +20,7 @@ use Rattle.layout.specs.Pieces.{numbers-append, length-numbers}
 pub record Laid (z : ℕ) (ts : List Transition) (p k : ℕ) (m : List ℕ) (p′ k′ : ℕ) (m′ : List ℕ) : Type 0 where
   pub within : p + z ≤ 2048 → p′ ≡ p + z
   pub over : 2048 < p + z → 2048 < p′
-  pub exact : p + z ≤ 2048 → k + length ts ≤ 60000 → (k′ ≡ k + length ts) × (m′ ≡ sets m (3 * k) (numbers ts))
+  pub exact : p + z ≤ 2048 → k + length ts ≤ 60000 → 3 * (k + length ts) ≤ length m → (k′ ≡ k + length ts) × (m′ ≡ sets m (3 * k) (numbers ts))
 
 sets-append : (m : List ℕ) (i : ℕ) (a b : List ℕ) → sets (sets m i a) (i + length a) b ≡ sets m i (a ++ b)
 sets-append m i [] b = rw add-zero refl
@@ -30,7 +30,7 @@ sets-append m i (x ∷ a) b =
 
 pub laid-none : (p k : ℕ) (m : List ℕ) → Laid 0 [] p k m p k m
 unfolding numbers
-laid-none p k m = record { within = λ h. omega arith; over = λ h. omega arith; exact = λ h l. (omega arith, refl) }
+laid-none p k m = record { within = λ h. omega arith; over = λ h. omega arith; exact = λ h l f. (omega arith, refl) }
 
 -- one after another; the second's transitions are those at the state where the first ends
 pub laid-both : (z y : ℕ) (ts us vs : List Transition) (p k : ℕ) (m : List ℕ) (q l : ℕ) (n : List ℕ) (r j : ℕ) (o : List ℕ)
@@ -47,14 +47,16 @@ laid-both z y ts us vs p k m q l n r j o a b same = record { within = within; ov
     over h (inl g) = let f : 2048 < q = a .over g in b .over (omega arith)
     over h (inr g) = let e : q ≡ p + z = a .within g in b .over (omega arith)
 
-    exact : p + (z + y) ≤ 2048 → k + length (ts ++ vs) ≤ 60000 → (j ≡ k + length (ts ++ vs)) × (o ≡ sets m (3 * k) (numbers (ts ++ vs)))
-    exact h g =
+    exact : p + (z + y) ≤ 2048 → k + length (ts ++ vs) ≤ 60000 → 3 * (k + length (ts ++ vs)) ≤ length m
+        → (j ≡ k + length (ts ++ vs)) × (o ≡ sets m (3 * k) (numbers (ts ++ vs)))
+    exact h g f =
         let e : q ≡ p + z = first h in
         let u : us ≡ vs = same e in
         let s : length (ts ++ vs) ≡ length ts + length vs = length-append ts vs in
         let v : length us ≡ length vs = ap length u in
-        let c : (l ≡ k + length ts) × (n ≡ sets m (3 * k) (numbers ts)) = a .exact (omega arith) (omega arith) in
-        let d : (j ≡ l + length us) × (o ≡ sets n (3 * l) (numbers us)) = b .exact (omega arith) (omega (arith, c .0)) in
+        let c : (l ≡ k + length ts) × (n ≡ sets m (3 * k) (numbers ts)) = a .exact (omega arith) (omega arith) (omega (arith, f)) in
+        let x : length n ≡ length m = ap length (c .1) ∙ length-sets m (3 * k) (numbers ts) in
+        let d : (j ≡ l + length us) × (o ≡ sets n (3 * l) (numbers us)) = b .exact (omega arith) (omega (arith, c .0)) (omega (arith, c .0, f)) in
         let w : 3 * l ≡ 3 * k + length (numbers ts) = omega (arith, c .0, length-numbers ts) in (
           omega (arith, c .0, d .0),
           d .1 ∙ (rw (c .1, w, u) (sets-append m (3 * k) (numbers ts) (numbers vs)) ∙ ap (sets m (3 * k)) (sym (numbers-append ts vs))),
@@ -98,15 +100,18 @@ module _ (size : ℕ → ℕ) (inside : ℕ → ℕ → List Transition) where
   unfolding rows-size rows-transitions
   laid-rows-end i at k m = laid-none at k m
 
--- one transition, written as three numbers; none where the count is full or the tables are too large
+-- one transition, written as three numbers; none where the count or the table is full or the tables are too large
 pub laid-one : (t : Transition) (p k : ℕ) (m : List ℕ) → Laid 0 (t ∷ []) p k m p (k + 1) (set (set (set m (3 * k) (t .from)) (3 * k + 1) (t .label)) (3 * k + 2) (t .to))
 unfolding numbers
 laid-one t p k m =
-    record { within = λ h. omega arith; over = λ h. omega arith; exact = λ h l. (omega arith, rw (add-one, add-two) refl) }
+    record { within = λ h. omega arith; over = λ h. omega arith; exact = λ h l f. (omega arith, rw (add-one, add-two) refl) }
 
 pub laid-full : (t : Transition) (p k : ℕ) (m : List ℕ) → 60000 ≤ k → Laid 0 (t ∷ []) p k m p k m
-laid-full t p k m g = record { within = λ h. omega arith; over = λ h. omega arith; exact = λ h l. absurd (let f : ⊥ = omega arith in f) }
+laid-full t p k m g = record { within = λ h. omega arith; over = λ h. omega arith; exact = λ h l f. absurd (let e : ⊥ = omega arith in e) }
+
+pub laid-short : (t : Transition) (p k : ℕ) (m : List ℕ) → length m < 3 * k + 3 → Laid 0 (t ∷ []) p k m p k m
+laid-short t p k m g = record { within = λ h. omega arith; over = λ h. omega arith; exact = λ h l f. absurd (let e : ⊥ = omega (arith, f, g) in e) }
 
 pub laid-past : (t : Transition) (p k : ℕ) (m : List ℕ) → 2048 < p → Laid 0 (t ∷ []) p k m p k m
 laid-past t p k m g =
-    record { within = λ h. omega arith; over = λ h. omega arith; exact = λ h l. absurd (let f : ⊥ = omega arith in f) }
+    record { within = λ h. omega arith; over = λ h. omega arith; exact = λ h l f. absurd (let e : ⊥ = omega arith in e) }

@@ -25,13 +25,13 @@ returns-2 : tie.Need-returns-2
 returns-2 c = let p = c .before .before .before .before .before .before .before .before .before .before .before .pre in
     let w = c .before .before .before .before .roots .ensures (p .book .rules) (p .index) (p .book .names) (fuel-enough _ _ _ p) in
     builds-refused _ _ _ _
-    (built-count _ _ _ (p .book) (p .ordered) (fits _ _ _ p _ _ _ _ _ w (c .before .if1 .left)) (omega (arith, same-count _ _ _ p _ _ _ _ _ w (c .before .if1 .left), c .if2 .taken)))
+    (built-count _ _ _ (p .book) (p .ordered) (fits _ _ _ p _ _ _ _ _ w (c .before .if1 .left)) (omega (arith, same-count _ _ _ p _ _ _ _ _ w refl (c .before .if1 .left), c .if2 .taken)))
 
 returns-3 : tie.Need-returns-3
 returns-3 c = let p = c .before .before .before .before .before .before .before .before .before .before .before .before .pre in
     let w = c .before .before .before .before .before .roots .ensures (p .book .rules) (p .index) (p .book .names) (fuel-enough _ _ _ p) in
     builds-refused _ _ _ _
-    (built-heads _ _ _ (p .book) (p .ordered) (fits _ _ _ p _ _ _ _ _ w (c .before .before .if1 .left)) (omega (arith, same-count _ _ _ p _ _ _ _ _ w (c .before .before .if1 .left), c .before .if2 .left))
+    (built-heads _ _ _ (p .book) (p .ordered) (fits _ _ _ p _ _ _ _ _ w (c .before .before .if1 .left)) (omega (arith, same-count _ _ _ p _ _ _ _ _ w refl (c .before .before .if1 .left), c .before .if2 .left))
     (omega (arith, p .same, c .if3 .taken)))
 
 mul-if4 : tie.Need-mul-if4
@@ -40,7 +40,7 @@ mul-if4 c = search needs
 returns-4 : tie.Need-returns-4
 returns-4 c = let p = c .before .before .before .before .before .before .before .before .before .before .before .before .before .pre in
     let w = c .before .before .before .before .before .before .roots .ensures (p .book .rules) (p .index) (p .book .names) (fuel-enough _ _ _ p) in
-    let k = same-count _ _ _ p _ _ _ _ _ w (c .before .before .before .if1 .left) in
+    let k = same-count _ _ _ p _ _ _ _ _ w refl (c .before .before .before .if1 .left) in
     builds-refused _ _ _ _
     (built-moves _ _ _ (p .book) (p .ordered) (fits _ _ _ p _ _ _ _ _ w (c .before .before .before .if1 .left)) (omega (arith, k, c .before .before .if2 .left)) (omega (arith, k, c .if4 .taken)))
 
