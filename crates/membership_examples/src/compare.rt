@@ -1,32 +1,35 @@
 // Puts a question to the answerer and to the second method.
+use crate::chain::Chain;
+use crate::chain::spelled;
 use crate::counts::DERIVED;
-use crate::counts::add_agreed;
-use crate::counts::add_asked;
-use crate::print::answer;
-use crate::print::bytes;
-use crate::print::label;
+use crate::rules::Rules;
 use crate::second::derives;
+use crate::text::part;
 use answerer::Answer;
 
-// Puts a question to both and counts it; whether they agree, and say yes where the chain was derived. A difference is written.
-pub(crate) fn agree(
+// Whether the two methods agree, and say yes where the chain was derived; and whether they say yes.
+pub(crate) struct Compared {
+    pub(crate) agreed: bool,
+    pub(crate) yes: bool,
+}
+
+// Puts a question about a book to its tables and to its rules.
+pub(crate) fn compare(
     kind: usize,
-    book: &[u8],
     heads: &[u16],
     moves: &[u16],
-    role: u8,
-    chain: &[u8],
-    counts: &mut [u64],
-) -> bool {
-    let first = answerer::ask(heads, moves, role, chain);
-    let second = derives(book, role, chain);
-    add_asked(counts, kind);
-    if expected(kind, first, second) {
-        add_agreed(counts, kind, second);
-        return true;
+    rules: Rules,
+    role: u64,
+    chain: Chain,
+) -> Compared {
+    let space = spelled(chain);
+    let links = part(&space, 0, chain.size);
+    let first = answerer::ask(heads, moves, (role % 256) as u8, links);
+    let second = derives(rules, role, chain);
+    Compared {
+        agreed: expected(kind, first, second),
+        yes: second,
     }
-    difference(book, role, chain, first, second);
-    false
 }
 
 // Whether two answers agree, and are yes where the chain was derived.
@@ -41,19 +44,4 @@ fn expected(kind: usize, first: Answer, second: bool) -> bool {
         }
         Answer::Refused(_) => false,
     }
-}
-
-fn difference(book: &[u8], role: u8, chain: &[u8], first: Answer, second: bool) {
-    bytes(b"difference, book", book);
-    label(b"role ", role as u64);
-    bytes(b", chain", chain);
-    answer(b"answerer", first);
-    answer(b"second method", decided(second));
-}
-
-fn decided(yes: bool) -> Answer {
-    if yes {
-        return Answer::Yes;
-    }
-    Answer::No
 }

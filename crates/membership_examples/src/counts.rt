@@ -1,6 +1,6 @@
 // Counts of books and questions, and the lines that tell them.
-use crate::print::label;
-use crate::print::line;
+use crate::compare::Compared;
+use crate::text::wide;
 
 // Kinds of chains: derived from the role, nearly derived, random, and every chain in turn.
 pub(crate) const DERIVED: usize = 0;
@@ -12,79 +12,44 @@ pub(crate) const RANDOM: usize = 2;
 pub(crate) const EVERY: usize = 3;
 
 // Books made.
-pub(crate) const MADE: usize = 0;
-
-// Books accepted.
-pub(crate) const ACCEPTED: usize = 1;
+pub(crate) const MADE: usize = 12;
 
 // Books refused by cause n are counted at REFUSED + n.
-pub(crate) const REFUSED: usize = 2;
+pub(crate) const REFUSED: usize = 12;
+
+// Books accepted.
+pub(crate) const ACCEPTED: usize = 24;
 
 // The most states of an accepted book.
-pub(crate) const STATES: usize = 14;
+pub(crate) const STATES: usize = 25;
 
 // Accepted books with mark n are counted at MARKED + n.
-pub(crate) const MARKED: usize = 16;
+pub(crate) const MARKED: usize = 25;
 
-// Questions of kind n are counted from ASKED + 4 n on: asked, agreed on, and answered by yes.
-const ASKED: usize = 24;
+// Questions of kind n are counted from 3 n on: asked, agreed on, and answered by yes.
+pub(crate) fn add_question(counts: [u64; 32], kind: usize, compared: Compared) -> [u64; 32] {
+    let asked = add(counts, kind % 4 * 3, 1);
+    let agreed = add(asked, kind % 4 * 3 + 1, compared.agreed as u64);
+    add(agreed, kind % 4 * 3 + 2, compared.yes as u64)
+}
 
-// Counts one more, up to a thousand million.
-pub(crate) fn add(counts: &mut [u64], at: usize) {
-    if at < counts.len() {
-        if counts[at] < 1000000000 {
-            counts[at] += 1;
+pub(crate) fn add(counts: [u64; 32], at: usize, n: u64) -> [u64; 32] {
+    let mut sums = counts;
+    let place = at % 32;
+    sums[place] = std::num::wrapping_add_u64(sums[place], n);
+    sums
+}
+
+// Writes a text in which the byte 128 + i stands for count i.
+pub(crate) fn tell(text: &[u8], counts: &[u64; 32]) {
+    let mut i = 0;
+    while i < text.len() {
+        let byte = wide(text[i]);
+        if byte < 128 {
+            io::write_all(1, &text[i..i + 1]);
+        } else {
+            io::print_decimal(1, counts[byte % 32]);
         }
-    }
-}
-
-// Keeps the larger of a count and a number.
-pub(crate) fn raise(counts: &mut [u64], at: usize, n: usize) {
-    if count(counts, at) < n as u64 {
-        if at < counts.len() {
-            counts[at] = n as u64;
-        }
-    }
-}
-
-fn count(counts: &[u64], at: usize) -> u64 {
-    if at < counts.len() {
-        return counts[at];
-    }
-    0
-}
-
-// Counts a question of a kind.
-pub(crate) fn add_asked(counts: &mut [u64], kind: usize) {
-    add(counts, ASKED + 4 * (kind % 4));
-}
-
-// Counts an answer that both give.
-pub(crate) fn add_agreed(counts: &mut [u64], kind: usize, yes: bool) {
-    let place = ASKED + 4 * (kind % 4);
-    add(counts, place + 1);
-    if yes {
-        add(counts, place + 2);
-    }
-}
-
-// The counts from a place to an end.
-pub(crate) fn count_line(text: &[u8], counts: &[u64], from: usize, end: usize) {
-    io::write_all(1, text);
-    io::write_all(1, b":");
-    let mut i = from;
-    while i < end {
-        label(b" ", count(counts, i));
         i += 1;
     }
-    line(b"");
-}
-
-pub(crate) fn kind_line(text: &[u8], counts: &[u64], kind: usize) {
-    let place = ASKED + 4 * (kind % 4);
-    io::write_all(1, text);
-    label(b": asked ", count(counts, place));
-    label(b", agreed ", count(counts, place + 1));
-    label(b", yes ", count(counts, place + 2));
-    line(b"");
 }

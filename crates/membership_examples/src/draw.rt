@@ -1,36 +1,34 @@
-// Numbers and roles drawn from a seed.
+// Numbers drawn from a seed.
 ghost use Prim.Native.Nat.{_-_, _≤_};
-use crate::slices::put;
+
+pub(crate) struct Drawn {
+    pub(crate) seed: u64,
+    pub(crate) value: usize,
+}
 
 // A number below n, from the high bits of a linear congruential generator; 0 where n is 0.
-pub(crate) fn draw(seed: &mut u64, n: usize) -> usize
-    ensures { λ r. ⌜ r ≤ n - 1 ⌝ }
+pub(crate) fn draw(seed: u64, n: usize) -> Drawn
+    ensures { λ r. ⌜ r .value ≤ n - 1 ⌝ }
 {
-    let next = (*seed % 2147483648 * 1103515245 + 12345) % 2147483648;
-    *seed = next;
+    let next = (seed % 2147483648 * 1103515245 + 12345) % 2147483648;
     if n == 0 {
-        return 0;
+        return Drawn {
+            seed: next,
+            value: 0,
+        };
     }
-    (next / 65536) as usize % n
+    Drawn {
+        seed: next,
+        value: (next / 65536) as usize % n,
+    }
 }
 
-pub(crate) fn coin(seed: &mut u64) -> bool {
-    draw(seed, 2) == 1
-}
-
-// Writes roles from a place to an end, each of the `roles` roles from `low` on.
-pub(crate) fn draw_roles(
-    seed: &mut u64,
-    s: &mut [u8],
-    from: usize,
-    end: usize,
-    low: usize,
-    roles: usize,
-) {
-    let mut i = from;
-    while i < end {
-        let role = low % 128 + draw(seed, roles) % 128;
-        put(s, i, role as u8);
-        i += 1;
+// A number from 1 to n, small ones more often.
+pub(crate) fn draw_small(seed: u64, n: usize) -> Drawn {
+    let most = draw(seed, n);
+    let value = draw(most.seed, 1 + most.value);
+    Drawn {
+        seed: value.seed,
+        value: 1 + value.value,
     }
 }

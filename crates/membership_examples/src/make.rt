@@ -1,162 +1,176 @@
 // Books made from a seed, with rules of each form. The inner roles of a book's rules all have lower names than the right role, or all higher
 // ones, so that every book has a regular order.
 ghost use Prim.Native.Nat.{_-_, _≤_};
-use crate::draw::coin;
+use crate::chain::Chain;
+use crate::chain::link;
+use crate::chain::one;
+use crate::chain::push;
+use crate::chain::splice;
+use crate::draw::Drawn;
 use crate::draw::draw;
-use crate::draw::draw_roles;
-use crate::slices::put;
-use role_bytes::inverse;
-use role_bytes::is_inverse;
+use crate::draw::draw_small;
+use crate::sample::draw_links;
 
-// Writes a book of 2 to 6 names and 1 to 8 rules, marks what it has, and answers where it ends.
-pub(crate) fn make_book(seed: &mut u64, book: &mut [u8], marks: &mut [u8]) -> usize {
-    let names = 2 + draw(seed, 5);
-    let rules = 1 + draw(seed, 8);
-    let higher = coin(seed);
-    header(book, names, rules);
-    let mut at = 8;
+// A book, its size, and a bit for each form that its rules have; bit 6 for an inverse right role.
+pub(crate) struct Made {
+    pub(crate) seed: u64,
+    pub(crate) book: [u8; 96],
+    pub(crate) size: usize,
+    pub(crate) marks: u64,
+}
+
+// Makes a book of 2 to 6 names and 1 to 8 rules.
+pub(crate) fn make_book(seed: u64) -> Made {
+    let names = draw(seed, 5);
+    let rules = draw(names.seed, 8);
+    let higher = draw(rules.seed, 2);
+    let book = header(2 + names.value, 1 + rules.value);
+    let mut made = Made {
+        seed: higher.seed,
+        book: book,
+        size: 8,
+        marks: 0,
+    };
     let mut i = 0;
-    while i < rules {
-        at = make_rule(seed, book, at, names, higher, marks);
+    while i <= rules.value {
+        made = add_rule(made, 2 + names.value, higher.value == 1);
         i += 1;
     }
-    at
+    made
 }
 
-// Writes the first 8 bytes of a book, which is 0 before.
-fn header(book: &mut [u8], names: usize, rules: usize) {
-    put(book, 0, 0x52);
-    put(book, 1, 0x4C);
-    put(book, 2, 0x42);
-    put(book, 3, 1);
-    put(book, 5, (names % 256) as u8);
-    put(book, 6, (rules % 256) as u8);
+// The first 8 bytes of a book.
+fn header(names: usize, rules: usize) -> [u8; 96] {
+    let mut book = [0u8; 96];
+    book[0] = 0x52;
+    book[1] = 0x4C;
+    book[2] = 0x42;
+    book[3] = 1;
+    book[5] = (names % 256) as u8;
+    book[6] = (rules % 256) as u8;
+    book
 }
 
-// Writes a rule whose inner roles have lower names than its right role, or higher ones, and answers the place after it.
-fn make_rule(
-    seed: &mut u64,
-    book: &mut [u8],
-    at: usize,
-    names: usize,
-    higher: bool,
-    marks: &mut [u8],
-) -> usize
+// Adds a rule whose inner roles have lower names than its right role, or higher ones.
+fn add_rule(made: Made, names: usize, higher: bool) -> Made
     requires { ⌜ 2 ≤ names ⌝ }
-    requires { ⌜ names ≤ 6 ⌝ }
+    requires { ⌜ names ≤ 7 ⌝ }
 {
-    let level = draw_level(seed, names);
-    let polarity = draw(seed, 2);
+    let level = draw_level(made.seed, names);
+    let polarity = draw(level.seed, 2);
+    let roles = 2 * level.value;
     if higher {
-        let name = names - 1 - level;
-        let low = 2 * name + 2;
-        return write_rule(seed, book, at, 2 * name + polarity, low, 2 * level, marks);
+        let low = 2 * (names - level.value);
+        return write_rule(made, polarity.seed, low - 2 + polarity.value, low, roles);
     }
-    write_rule(seed, book, at, 2 * level + polarity, 0, 2 * level, marks)
+    write_rule(made, polarity.seed, roles + polarity.value, 0, roles)
 }
 
 // The number of names that inner roles may have; none less often.
-fn draw_level(seed: &mut u64, names: usize) -> usize
-    ensures { λ r. ⌜ r ≤ names - 1 ⌝ }
+fn draw_level(seed: u64, names: usize) -> Drawn
+    ensures { λ r. ⌜ r .value ≤ names - 1 ⌝ }
 {
     let level = draw(seed, names);
-    if level == 0 {
-        return draw(seed, names);
+    if level.value == 0 {
+        return draw(level.seed, names);
     }
     level
 }
 
 // Writes a rule with inner roles among the `roles` roles from `low` on, or of form 4 or 5 where there are none.
-fn write_rule(
-    seed: &mut u64,
-    book: &mut [u8],
-    at: usize,
-    right: usize,
-    low: usize,
-    roles: usize,
-    marks: &mut [u8],
-) -> usize {
-    if 1000 < at {
-        return at;
-    }
-    let right = (right % 128) as u8;
+fn write_rule(made: Made, seed: u64, right: usize, low: usize, roles: usize) -> Made {
     let form = draw_form(seed, roles);
-    let size = draw_size(seed, form);
-    put(book, at, right);
-    put(book, at + 1, size as u8);
-    draw_roles(seed, book, at + 2, at + 2 + size, low, roles);
-    own_links(book, at + 2, at + 1 + size, form, right);
-    mark(marks, form, right);
-    at + 2 + size
+    let size = draw_size(form.seed, form.value);
+    let drawn = draw_links(size.seed, size.value, low, roles);
+    let role = right as u64;
+    let left = own_links(drawn.chain, form.value, role);
+    let before = made.book;
+    let book = put_rule(before, made.size, role, left);
+    Made {
+        seed: drawn.seed,
+        book: book,
+        size: made.size % 96 + 2 + left.size % 16,
+        marks: made.marks | 1 << form.value % 64 | role % 2 << 6,
+    }
 }
 
 // A form from 1 to 5; 4 or 5 where there is no inner role.
-fn draw_form(seed: &mut u64, roles: usize) -> usize
-    ensures { λ r. ⌜ r ≤ 5 ⌝ }
-{
+fn draw_form(seed: u64, roles: usize) -> Drawn {
     if roles == 0 {
-        return 4 + draw(seed, 2);
+        let form = draw(seed, 2);
+        return Drawn {
+            seed: form.seed,
+            value: 4 + form.value,
+        };
     }
     let pick = draw(seed, 8);
-    if pick < 6 {
-        return 1 + pick / 2;
+    if pick.value < 6 {
+        return Drawn {
+            seed: pick.seed,
+            value: 1 + pick.value / 2,
+        };
     }
-    pick - 2
+    Drawn {
+        seed: pick.seed,
+        value: pick.value - 2,
+    }
 }
 
 // The length of a left side of a form.
-fn draw_size(seed: &mut u64, form: usize) -> usize
-    ensures { λ r. ⌜ r ≤ 8 ⌝ }
-{
+fn draw_size(seed: u64, form: usize) -> Drawn {
     if form == 4 {
-        return 2;
+        return Drawn {
+            seed: seed,
+            value: 2,
+        };
     }
     if form == 5 {
-        return 1;
+        return Drawn {
+            seed: seed,
+            value: 1,
+        };
     }
     let inner = draw_inner(seed);
     if form == 1 {
         return inner;
     }
-    inner + 1
-}
-
-// The number of inner roles: up to 4, in one rule of four up to 7, small ones more often.
-fn draw_inner(seed: &mut u64) -> usize
-    ensures { λ r. ⌜ r ≤ 7 ⌝ }
-{
-    if draw(seed, 4) == 0 {
-        let most = 1 + draw(seed, 7);
-        return 1 + draw(seed, most);
-    }
-    let most = 1 + draw(seed, 4);
-    1 + draw(seed, most)
-}
-
-// Writes the links of a left side that are the right role or its inverse.
-fn own_links(book: &mut [u8], first: usize, last: usize, form: usize, right: u8) {
-    if form == 2 {
-        put(book, first, right);
-        return;
-    }
-    if form == 3 {
-        put(book, last, right);
-        return;
-    }
-    if form == 4 {
-        put(book, first, right);
-        put(book, last, right);
-        return;
-    }
-    if form == 5 {
-        put(book, first, inverse(right));
+    Drawn {
+        seed: inner.seed,
+        value: inner.value % 16 + 1,
     }
 }
 
-// Marks the form at its number, and an inverse right role at 6.
-fn mark(marks: &mut [u8], form: usize, right: u8) {
-    put(marks, form, 1);
-    if is_inverse(right) {
-        put(marks, 6, 1);
+// The number of inner roles: up to 4, in one rule of four up to 7.
+fn draw_inner(seed: u64) -> Drawn {
+    let quarter = draw(seed, 4);
+    if quarter.value == 0 {
+        return draw_small(quarter.seed, 7);
     }
+    draw_small(quarter.seed, 4)
+}
+
+// A left side with the links that are the right role or its inverse.
+fn own_links(left: Chain, form: usize, right: u64) -> Chain {
+    match form {
+        2 => splice(left, 0, 1, one(right)),
+        3 => splice(left, left.size % 16 + 15, 1, one(right)),
+        4 => push(one(right), right),
+        5 => one(right ^ 1),
+        _ => left,
+    }
+}
+
+// Writes a rule at a place.
+fn put_rule(before: [u8; 96], at: usize, right: u64, left: Chain) -> [u8; 96] {
+    let mut book = before;
+    let start = at % 96;
+    let size = left.size % 16;
+    book[start] = (right % 256) as u8;
+    book[(start + 1) % 96] = size as u8;
+    let mut i = 0;
+    while i < size {
+        book[(start + 2 + i) % 96] = (link(left, i) % 256) as u8;
+        i += 1;
+    }
+    book
 }

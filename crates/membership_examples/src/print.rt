@@ -1,5 +1,4 @@
 // What the program writes.
-use crate::slices::wide;
 use answerer::Answer;
 
 pub(crate) fn line(text: &[u8]) {
@@ -27,16 +26,4 @@ pub(crate) fn answer(text: &[u8], answer: Answer) {
             line(b"");
         }
     }
-}
-
-// The bytes of a book or a chain.
-pub(crate) fn bytes(text: &[u8], s: &[u8]) {
-    io::write_all(1, text);
-    io::write_all(1, b":");
-    let mut i = 0;
-    while i < s.len() {
-        label(b" ", wide(s[i]) as u64);
-        i += 1;
-    }
-    line(b"");
 }

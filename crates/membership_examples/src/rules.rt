@@ -1,60 +1,70 @@
-// The rules of a well-formed book, read from its bytes: the first stands at place 8.
-use crate::slices::wide;
-use role_bytes::inverse;
+// The rules of a well-formed book of up to 8 rules over roles below 16, read from its bytes.
+use crate::chain::Chain;
+use crate::chain::inverse;
+use crate::chain::push;
+use crate::text::byte;
+use crate::text::wide;
 
-// The left side of the rule at a place; none where no whole rule stands there.
-pub(crate) fn left_of(book: &[u8], at: usize) -> &[u8] {
-    if book.len() < 2 {
-        return &book[0..0];
-    }
-    if book.len() - 2 < at {
-        return &book[0..0];
-    }
-    let start = at + 2;
-    let size = wide(book[at + 1]);
-    if book.len() - start < size {
-        return &book[0..0];
-    }
-    let end = start + size;
-    &book[start..end]
+pub(crate) struct Rule {
+    pub(crate) right: u64,
+    pub(crate) left: Chain,
 }
 
-// The place after the rule at a place; the end of the book where none stands there.
-pub(crate) fn after(book: &[u8], at: usize) -> usize {
-    if book.len() < 2 {
-        return book.len();
-    }
-    if book.len() - 2 < at {
-        return book.len();
-    }
-    at + 2 + wide(book[at + 1])
+// The rules, and 8 places after each its mirror.
+pub(crate) struct Rules {
+    pub(crate) count: usize,
+    pub(crate) all: [Rule; 16],
 }
 
-// The place of the next rule; the first rule's after the last.
-pub(crate) fn following(book: &[u8], at: usize) -> usize {
-    let place = after(book, at);
-    if place < book.len() {
-        return place;
+pub(crate) fn rules_of(book: &[u8]) -> Rules {
+    let none = Rule {
+        right: 0,
+        left: Chain { links: 0, size: 0 },
+    };
+    let mut all = [none; 16];
+    let count = wide(byte(book, 6));
+    let mut at = 8;
+    let mut i = 0;
+    while i < count {
+        let rule = rule_at(book, at);
+        all[i % 8] = rule;
+        all[i % 8 + 8] = mirror(rule);
+        at = at % 4096 + 2 + rule.left.size % 16;
+        i += 1;
     }
-    8
+    Rules {
+        count: count,
+        all: all,
+    }
 }
 
-// Link i of a left side, or of its inverse: read backwards, each role inverted. 0 past the end.
-pub(crate) fn link(left: &[u8], mirrored: bool, i: usize) -> u8 {
-    if left.len() <= i {
-        return 0;
+fn rule_at(book: &[u8], at: usize) -> Rule {
+    let start = at % 4096 + 2;
+    let size = wide(byte(book, start - 1));
+    let mut left = Chain { links: 0, size: 0 };
+    let mut i = 0;
+    while i < size {
+        left = push(left, byte(book, start + i) as u64);
+        i += 1;
     }
-    if mirrored {
-        let turned = left.len() - 1 - i;
-        return inverse(left[turned]);
+    Rule {
+        right: byte(book, start - 2) as u64,
+        left: left,
     }
-    left[i]
 }
 
-// A role, or its inverse.
-pub(crate) fn turned(role: u8, mirrored: bool) -> u8 {
-    if mirrored {
-        return inverse(role);
+fn mirror(rule: Rule) -> Rule {
+    Rule {
+        right: rule.right ^ 1,
+        left: inverse(rule.left),
     }
-    role
+}
+
+// Rule i, counted round and round, or its mirror where `mirrored` is 1.
+pub(crate) fn nth(rules: Rules, i: usize, mirrored: usize) -> Rule {
+    if rules.count == 0 {
+        return rules.all[0];
+    }
+    let at = i % rules.count % 8 + mirrored % 2 * 8;
+    rules.all[at]
 }

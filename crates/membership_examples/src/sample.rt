@@ -1,19 +1,118 @@
-// Books to put questions to. In the smaller ones R is name 0, S name 1 and T name 2.
+// Chains of up to 12 links made from a seed: derived from a role, nearly derived, or random.
+use crate::chain::Chain;
+use crate::chain::link;
+use crate::chain::one;
+use crate::chain::push;
+use crate::chain::splice;
+use crate::counts::NEARLY;
+use crate::counts::RANDOM;
+use crate::draw::draw;
+use crate::draw::draw_small;
+use crate::rules::Rule;
+use crate::rules::Rules;
+use crate::rules::nth;
 
-// The hall book of document 01: part part to part; part sits to sits; sits let to due.
-pub(crate) const HALL: [u8; 20] =
-    *b"RLB\x01\x00\x04\x03\x00\x00\x02\x00\x00\x02\x02\x00\x02\x06\x02\x02\x04";
+pub(crate) struct Sampled {
+    pub(crate) seed: u64,
+    pub(crate) chain: Chain,
+}
 
-// inv(R) to R; S R to R.
-pub(crate) const SYMMETRIC: [u8; 15] = *b"RLB\x01\x00\x02\x02\x00\x00\x01\x01\x00\x02\x02\x00";
+// A chain of a kind, for a role of a book that has `roles` roles.
+pub(crate) fn sample(kind: usize, seed: u64, rules: Rules, role: u64, roles: usize) -> Sampled {
+    if kind == RANDOM {
+        let size = draw_small(seed, 12);
+        return draw_links(size.seed, size.value, 0, roles);
+    }
+    let made = derived(seed, rules, role);
+    if kind == NEARLY {
+        return nearly(made, roles);
+    }
+    made
+}
 
-// S inv(S) S to R.
-pub(crate) const THREE: [u8; 13] = *b"RLB\x01\x00\x02\x01\x00\x00\x03\x02\x03\x02";
+// Links drawn among the `roles` roles from `low` on.
+pub(crate) fn draw_links(seed: u64, size: usize, low: usize, roles: usize) -> Sampled {
+    let mut chain = Chain { links: 0, size: 0 };
+    let mut next = seed;
+    let mut i = 0;
+    while i < size {
+        let role = draw(next, roles);
+        next = role.seed;
+        chain = push(chain, (low % 16 + role.value % 16) as u64);
+        i += 1;
+    }
+    Sampled {
+        seed: next,
+        chain: chain,
+    }
+}
 
-// Forms 1, 2, 3, 4 and 5, each with the right role inv(R): S, inv(R) S, S inv(R), inv(R) inv(R) and R.
-pub(crate) const FORMS: [u8; 26] =
-    *b"RLB\x01\x00\x02\x05\x00\x01\x01\x02\x01\x02\x01\x02\x01\x02\x02\x01\x01\x02\x01\x01\x01\x01\x00";
+// A chain that is derived from a role by up to 96 replacements, by one rule after another.
+fn derived(seed: u64, rules: Rules, role: u64) -> Sampled {
+    let turns = draw(seed, 96);
+    let mut next = turns.seed;
+    let mut chain = one(role);
+    let mut i = 0;
+    while i <= turns.value {
+        let mirrored = draw(next, 2);
+        let place = draw(mirrored.seed, chain.size);
+        next = place.seed;
+        chain = replaced(chain, place.value, nth(rules, i, mirrored.value));
+        i += 1;
+    }
+    Sampled {
+        seed: next,
+        chain: chain,
+    }
+}
 
-// T T to T; inv(T) to T; S inv(T) to S; S inv(S) to R; T R to R.
-pub(crate) const NESTED: [u8; 27] =
-    *b"RLB\x01\x00\x03\x05\x00\x04\x02\x04\x04\x04\x01\x05\x02\x02\x02\x05\x00\x02\x02\x03\x00\x02\x04\x00";
+// The chain with the left side of a rule in place of link i, where that is its right role and there is room.
+fn replaced(chain: Chain, i: usize, rule: Rule) -> Chain {
+    if link(chain, i) != rule.right {
+        return chain;
+    }
+    if 13 < chain.size % 16 + rule.left.size % 16 {
+        return chain;
+    }
+    splice(chain, i, 1, rule.left)
+}
+
+// A link of a chain is changed or dropped, or two neighbours are swapped.
+fn nearly(made: Sampled, roles: usize) -> Sampled {
+    let chain = made.chain;
+    let place = draw(made.seed, chain.size);
+    let edit = draw(place.seed, 3);
+    if chain.size < 2 {
+        return changed(edit.seed, chain, place.value, roles);
+    }
+    if edit.value == 2 {
+        return changed(edit.seed, chain, place.value, roles);
+    }
+    let mut edited = swapped(chain, place.value);
+    if edit.value == 0 {
+        let none = Chain { links: 0, size: 0 };
+        edited = splice(chain, place.value, 1, none);
+    }
+    Sampled {
+        seed: edit.seed,
+        chain: edited,
+    }
+}
+
+fn changed(seed: u64, chain: Chain, i: usize, roles: usize) -> Sampled {
+    let role = draw(seed, roles);
+    Sampled {
+        seed: role.seed,
+        chain: splice(chain, i, 1, one(role.value as u64)),
+    }
+}
+
+// Link i is swapped with the one before it; the first with the second.
+fn swapped(chain: Chain, i: usize) -> Chain {
+    let mut first = 0;
+    if 0 < i {
+        first = i - 1;
+    }
+    let second = link(chain, first % 16 + 1);
+    splice(chain, first, 2, push(one(second), link(chain, first)))
+}

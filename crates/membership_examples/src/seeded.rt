@@ -1,172 +1,139 @@
 // Compares the two methods on books made from a seed, each with derived, nearly derived and random chains.
-use crate::chains::derived;
-use crate::chains::nearly;
-use crate::chains::random;
-use crate::compare::agree;
+use crate::compare::compare;
 use crate::counts::ACCEPTED;
-use crate::counts::DERIVED;
 use crate::counts::MADE;
 use crate::counts::MARKED;
-use crate::counts::NEARLY;
-use crate::counts::RANDOM;
 use crate::counts::REFUSED;
 use crate::counts::STATES;
 use crate::counts::add;
-use crate::counts::count_line;
-use crate::counts::kind_line;
-use crate::counts::raise;
-use crate::draw::coin;
+use crate::counts::add_question;
+use crate::counts::tell;
+use crate::draw::draw;
 use crate::make::make_book;
 use crate::print::label;
 use crate::print::line;
-use crate::rules::following;
-use crate::rules::turned;
-use crate::slices::byte;
-use crate::slices::front;
-use crate::slices::moves_of;
-use crate::slices::numbers_of;
-use crate::slices::wide;
+use crate::rules::nth;
+use crate::rules::rules_of;
+use crate::sample::sample;
+use crate::text::byte;
+use crate::text::moves_of;
+use crate::text::numbers_of;
+use crate::text::part;
+use crate::text::wide;
 use builder::Outcome;
+
+// How far the trial is: the next seed, the counts, and whether the two methods agreed so far.
+struct Trial {
+    seed: u64,
+    counts: [u64; 32],
+    agreed: bool,
+}
 
 // Makes books and asks their questions up to the first difference, and tells the counts.
 pub(crate) fn made_books() {
-    let mut counts = [0u64; 40];
-    let mut seed = 1;
-    if books(&mut seed, &mut counts) {
-        report(&counts);
-    }
-}
-
-fn books(seed: &mut u64, counts: &mut [u64]) -> bool {
+    let mut trial = Trial {
+        seed: 1,
+        counts: [0u64; 32],
+        agreed: true,
+    };
     let mut turns = 2500usize;
     while 0 < turns {
         turns -= 1;
-        if !book(seed, counts) {
-            return false;
+        let seed = trial.seed;
+        trial = try_book(trial);
+        if !trial.agreed {
+            label(b"difference at the seed ", seed);
+            line(b"");
+            break;
         }
     }
-    true
+    let counts = trial.counts;
+    report(&counts);
 }
 
-// Makes a book and asks its questions; whether all agree.
-fn book(seed: &mut u64, counts: &mut [u64]) -> bool {
-    let first = *seed;
-    let mut space = [0u8; 96];
-    let mut marks = [0u8; 8];
-    let size = make_book(seed, &mut space, &mut marks);
-    add(counts, MADE);
-    if build_and_ask(front(&space, size), seed, &marks, counts) {
-        return true;
-    }
-    label(b"seed ", first);
-    line(b"");
-    false
+fn report(counts: &[u64; 32]) {
+    tell(
+        b"books made: \x8C\nbooks refused by causes 1 to 11: \x8D \x8E \x8F \x90 \x91 \x92 \x93 \x94 \x95 \x96 \x97\nbooks accepted: \x98\n",
+        counts,
+    );
+    tell(
+        b"with forms 1 to 5: \x9A \x9B \x9C \x9D \x9E\nwith a symmetric relation: \x9E\nwith an inverse right role: \x9F\nmost states: \x99\n",
+        counts,
+    );
+    tell(
+        b"derived chains: asked \x80, agreed \x81, yes \x82\nnearly derived chains: asked \x83, agreed \x84, yes \x85\nrandom chains: asked \x86, agreed \x87, yes \x88\n",
+        counts,
+    );
 }
 
-// Builds the tables of a book and counts it, and asks its questions where it is accepted.
-fn build_and_ask(book: &[u8], seed: &mut u64, marks: &[u8], counts: &mut [u64]) -> bool {
+// Makes a book, builds its tables, and asks its questions where it is accepted.
+fn try_book(trial: Trial) -> Trial {
+    let made = make_book(trial.seed);
+    let before = trial.counts;
+    let counts = add(before, MADE, 1);
+    let space = made.book;
+    let book = part(&space, 0, made.size);
     let mut heads = [0u16; 8];
     let mut moves = [0u16; 15360];
-    match builder::build(book, &mut heads, &mut moves) {
+    let outcome = builder::build(book, &mut heads, &mut moves);
+    match outcome {
         Outcome::Refused(refusal) => {
-            add(counts, REFUSED + refusals::cause(refusal) % 12);
-            true
+            let counts = add(counts, REFUSED + refusals::cause(refusal) % 12, 1);
+            Trial {
+                seed: made.seed,
+                counts: counts,
+                agreed: true,
+            }
         }
         Outcome::Built(built) => {
             let heads = numbers_of(&heads, built.names);
             let moves = moves_of(&moves, built.transitions);
-            raise(counts, STATES, built.states);
-            add_marks(counts, marks);
-            questions(book, heads, moves, seed, counts)
+            let counts = add_book(counts, made.marks, built.states);
+            questions(book, heads, moves, made.seed, counts)
         }
     }
 }
 
-fn add_marks(counts: &mut [u64], marks: &[u8]) {
-    add(counts, ACCEPTED);
-    add_mark(counts, marks, 1);
-    add_mark(counts, marks, 2);
-    add_mark(counts, marks, 3);
-    add_mark(counts, marks, 4);
-    add_mark(counts, marks, 5);
-    add_mark(counts, marks, 6);
-}
-
-fn add_mark(counts: &mut [u64], marks: &[u8], i: usize) {
-    if byte(marks, i) == 1 {
-        add(counts, MARKED + i % 8);
+// Counts an accepted book by its marks, and keeps the most states.
+fn add_book(before: [u64; 32], marks: u64, states: usize) -> [u64; 32] {
+    let mut counts = add(before, ACCEPTED, 1);
+    if counts[STATES] < states as u64 {
+        counts[STATES] = states as u64;
     }
-}
-
-// Twenty questions with chains of each kind, about the right role of each rule in turn.
-fn questions(
-    book: &[u8],
-    heads: &[u16],
-    moves: &[u16],
-    seed: &mut u64,
-    counts: &mut [u64],
-) -> bool {
-    let mut at = 8;
-    let mut i = 0;
-    while i < 60 {
-        if !question(i / 20, at, book, heads, moves, seed, counts) {
-            return false;
-        }
-        at = following(book, at);
+    let mut i = 1;
+    while i < 7 {
+        counts = add(counts, MARKED + i, marks >> i & 1);
         i += 1;
     }
-    true
+    counts
 }
 
-// A question about the right role of the rule at a place, or about its inverse.
-fn question(
-    kind: usize,
-    at: usize,
-    book: &[u8],
-    heads: &[u16],
-    moves: &[u16],
-    seed: &mut u64,
-    counts: &mut [u64],
-) -> bool {
-    let mut chain = [0u8; 16];
-    let mirrored = coin(seed);
-    let role = turned(byte(book, at), mirrored);
-    let size = make_chain(kind, seed, book, role, &mut chain);
-    agree(kind, book, heads, moves, role, front(&chain, size), counts)
-}
-
-// Writes a chain of a kind and answers its length.
-fn make_chain(kind: usize, seed: &mut u64, book: &[u8], role: u8, chain: &mut [u8]) -> usize {
+// Twenty questions with chains of each kind, about the right role of each rule in turn, or about its inverse.
+fn questions(book: &[u8], heads: &[u16], moves: &[u16], seed: u64, before: [u64; 32]) -> Trial {
+    let rules = rules_of(book);
     let roles = 2 * wide(byte(book, 5));
-    if kind == RANDOM {
-        return random(seed, roles, chain);
+    let mut counts = before;
+    let mut next = seed;
+    let mut agreed = true;
+    let mut i = 0;
+    while i < 60 {
+        let kind = i / 20;
+        let mirrored = draw(next, 2);
+        let rule = nth(rules, i, mirrored.value);
+        let made = sample(kind, mirrored.seed, rules, rule.right, roles);
+        let compared = compare(kind, heads, moves, rules, rule.right, made.chain);
+        next = made.seed;
+        let more = add_question(counts, kind, compared);
+        counts = more;
+        if !compared.agreed {
+            agreed = false;
+            break;
+        }
+        i += 1;
     }
-    let size = derived(seed, book, role, chain);
-    if kind == NEARLY {
-        return nearly(seed, roles, chain, size);
+    Trial {
+        seed: next,
+        counts: counts,
+        agreed: agreed,
     }
-    size
-}
-
-fn report(counts: &[u64]) {
-    count_line(b"books made", counts, MADE, MADE + 1);
-    count_line(
-        b"books refused by causes 1 to 11",
-        counts,
-        REFUSED + 1,
-        REFUSED + 12,
-    );
-    count_line(b"books accepted", counts, ACCEPTED, ACCEPTED + 1);
-    count_line(b"with forms 1 to 5", counts, MARKED + 1, MARKED + 6);
-    count_line(b"with a symmetric relation", counts, MARKED + 5, MARKED + 6);
-    count_line(
-        b"with an inverse right role",
-        counts,
-        MARKED + 6,
-        MARKED + 7,
-    );
-    count_line(b"most states", counts, STATES, STATES + 1);
-    kind_line(b"derived chains", counts, DERIVED);
-    kind_line(b"nearly derived chains", counts, NEARLY);
-    kind_line(b"random chains", counts, RANDOM);
 }

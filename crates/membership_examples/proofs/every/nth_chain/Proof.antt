@@ -1,16 +1,13 @@
 -- `nth_chain` is safe and ends.
-use mathlib.Core.Path.{_≡_}
-use Prim.Native.Nat.{_-_}
 use borrow.Author.Needs.{needs}
-use lib.ListN.{length}
 use Rattle.membership_examples.proofs.every.nth_chain.Statement.{statement}
 use Rattle.membership_examples.proofs.every.nth_chain.Tie as tie
 
 abbrev Inv-loop : tie.InvT-loop
-Inv-loop n roles chain₀ rest₀ size₀ chain rest size = length chain ≡ length chain₀
+Inv-loop n roles chain₀ rest₀ turns₀ chain rest turns = Unit
 
 abbrev μ-loop : tie.MeasureT-loop
-μ-loop n roles chain₀ rest₀ size₀ chain rest size = 8 - size
+μ-loop n roles chain₀ rest₀ turns₀ chain rest turns = turns
 
 pub nth-chain-spec : {M : Type 1} → statement M
 nth-chain-spec =
@@ -23,9 +20,6 @@ nth-chain-spec =
     (λ c. search needs)
     (λ c. search needs)
     (λ c κs. search needs)
-    (λ c. search needs)
-    (λ c. search needs)
-    (λ c. search needs)
     (λ c. search needs)
     (λ c. search needs)
     (λ c. search needs)

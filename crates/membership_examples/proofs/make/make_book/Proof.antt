@@ -1,16 +1,14 @@
 -- `make_book` is safe and ends.
-use mathlib.Core.Path.{_≡_}
-use Prim.Native.Nat.{_-_}
+use Prim.Native.Nat.{_-_, _+_}
 use borrow.Author.Needs.{needs}
-use lib.ListN.{length}
 use Rattle.membership_examples.proofs.make.make_book.Statement.{statement}
 use Rattle.membership_examples.proofs.make.make_book.Tie as tie
 
 abbrev Inv-loop : tie.InvT-loop
-Inv-loop seed₀ book₀ marks₀ names rules higher at₀ i₀ seed book marks at i = (length book ≡ length book₀) × (length marks ≡ length marks₀)
+Inv-loop seed names rules higher made₀ i₀ made i = Unit
 
 abbrev μ-loop : tie.MeasureT-loop
-μ-loop seed₀ book₀ marks₀ names rules higher at₀ i₀ seed book marks at i = rules - i
+μ-loop seed names rules higher made₀ i₀ made i = rules .value + 1 - i
 
 pub make-book-spec : {M : Type 1} → statement M
 make-book-spec =
@@ -19,15 +17,14 @@ make-book-spec =
     Inv-loop
     μ-loop
     (λ c κs. search needs)
-    (λ c. search needs)
-    (λ c κs. search needs)
-    (λ c. search needs)
     (λ c κs. search needs)
     (λ c κs. search needs)
     (λ c. search needs)
+    (λ c. search needs)
     (λ c κs. search needs)
     (λ c. search needs)
     (λ c. search needs)
+    (λ c κs. search needs)
     (λ c. search needs)
     (λ c. search needs)
     (λ c. search needs)

@@ -1,18 +1,17 @@
--- `bytes` is safe and ends.
+-- `read_list` is safe and ends.
 use Prim.Native.Nat.{_-_}
 use borrow.Author.Needs.{needs}
-use lib.ListN.{length}
-use Rattle.membership_examples.proofs.print.bytes.Statement.{statement}
-use Rattle.membership_examples.proofs.print.bytes.Tie as tie
+use Rattle.membership_examples.proofs.text.read_list.Statement.{statement}
+use Rattle.membership_examples.proofs.text.read_list.Tie as tie
 
 abbrev Inv-loop : tie.InvT-loop
-Inv-loop text s i₀ t5 t6 i = Unit
+Inv-loop s at last₀ size numbers₀ bytes₀ i₀ last numbers bytes i = Unit
 
 abbrev μ-loop : tie.MeasureT-loop
-μ-loop text s i₀ t5 t6 i = length s - i
+μ-loop s at last₀ size numbers₀ bytes₀ i₀ last numbers bytes i = size - i
 
-pub bytes-spec : {M : Type 1} → statement M
-bytes-spec =
+pub read-list-spec : {M : Type 1} → statement M
+read-list-spec =
     tie.close
     (tie.spec
     Inv-loop
@@ -23,11 +22,9 @@ bytes-spec =
     (λ c. search needs)
     (λ c. search needs)
     (λ c. search needs)
-    (λ c κs. search needs)
-    (λ c κs. search needs)
     (λ c. search needs)
     (λ c. search needs)
     (λ c. search needs)
     (λ c. search needs)
-    (λ c κs. search needs)
+    (λ c. search needs)
     (λ c. search needs))

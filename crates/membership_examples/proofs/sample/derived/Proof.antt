@@ -1,15 +1,14 @@
 -- `derived` is safe and ends.
-use mathlib.Core.Path.{_≡_}
+use Prim.Native.Nat.{_-_, _+_}
 use borrow.Author.Needs.{needs}
-use lib.ListN.{length}
-use Rattle.membership_examples.proofs.chains.derived.Statement.{statement}
-use Rattle.membership_examples.proofs.chains.derived.Tie as tie
+use Rattle.membership_examples.proofs.sample.derived.Statement.{statement}
+use Rattle.membership_examples.proofs.sample.derived.Tie as tie
 
 abbrev Inv-loop : tie.InvT-loop
-Inv-loop seed₀ book role chain₀ size₀ at₀ turns₀ seed chain size at turns = length chain ≡ length chain₀
+Inv-loop seed rules role turns next₀ chain₀ i₀ next chain i = Unit
 
 abbrev μ-loop : tie.MeasureT-loop
-μ-loop seed₀ book role chain₀ size₀ at₀ turns₀ seed chain size at turns = turns
+μ-loop seed rules role turns next₀ chain₀ i₀ next chain i = turns .value + 1 - i
 
 pub derived-spec : {M : Type 1} → statement M
 derived-spec =
@@ -20,8 +19,8 @@ derived-spec =
     (λ c κs. search needs)
     (λ c κs. search needs)
     (λ c. search needs)
-    (λ c. search needs)
-    (λ c. search needs)
+    (λ c κs. search needs)
+    (λ c κs. search needs)
     (λ c κs. search needs)
     (λ c κs. search needs)
     (λ c. search needs)

@@ -1,29 +1,33 @@
--- `draw_roles` is safe and ends.
-use mathlib.Core.Path.{_≡_}
+-- `tell` is safe and ends.
 use Prim.Native.Nat.{_-_}
 use borrow.Author.Needs.{needs}
 use lib.ListN.{length}
-use Rattle.membership_examples.proofs.draw.draw_roles.Statement.{statement}
-use Rattle.membership_examples.proofs.draw.draw_roles.Tie as tie
+use Rattle.membership_examples.proofs.counts.tell.Statement.{statement}
+use Rattle.membership_examples.proofs.counts.tell.Tie as tie
 
 abbrev Inv-loop : tie.InvT-loop
-Inv-loop seed₀ s₀ from end low roles i₀ seed s i = length s ≡ length s₀
+Inv-loop text counts i₀ i = Unit
 
 abbrev μ-loop : tie.MeasureT-loop
-μ-loop seed₀ s₀ from end low roles i₀ seed s i = end - i
+μ-loop text counts i₀ i = length text - i
 
-pub draw-roles-spec : {M : Type 1} → statement M
-draw-roles-spec =
+pub tell-spec : {M : Type 1} → statement M
+tell-spec =
     tie.close
     (tie.spec
     Inv-loop
     μ-loop
     (λ c. search needs)
+    (λ c. search needs)
+    (λ c κs. search needs)
+    (λ c. search needs)
+    (λ c. search needs)
+    (λ c. search needs)
+    (λ c. search needs)
     (λ c κs. search needs)
     (λ c. search needs)
     (λ c. search needs)
     (λ c κs. search needs)
-    (λ c. search needs)
     (λ c. search needs)
     (λ c. search needs)
     (λ c. search needs)

@@ -1,0 +1,34 @@
+-- `rules_of` is safe and ends.
+use Prim.Native.Nat.{_-_}
+use borrow.Author.Needs.{needs}
+use Rattle.membership_examples.proofs.rules.rules_of.Statement.{statement}
+use Rattle.membership_examples.proofs.rules.rules_of.Tie as tie
+
+abbrev Inv-loop : tie.InvT-loop
+Inv-loop book all₀ count at₀ i₀ all at i = Unit
+
+abbrev μ-loop : tie.MeasureT-loop
+μ-loop book all₀ count at₀ i₀ all at i = count - i
+
+pub rules-of-spec : {M : Type 1} → statement M
+rules-of-spec =
+    tie.close
+    (tie.spec
+    Inv-loop
+    μ-loop
+    (λ c κs. search needs)
+    (λ c κs. search needs)
+    (λ c. search needs)
+    (λ c κs. search needs)
+    (λ c. search needs)
+    (λ c. search needs)
+    (λ c κs. search needs)
+    (λ c. search needs)
+    (λ c. search needs)
+    (λ c. search needs)
+    (λ c. search needs)
+    (λ c. search needs)
+    (λ c. search needs)
+    (λ c. search needs)
+    (λ c. search needs)
+    (λ c. search needs))
