@@ -1,8 +1,8 @@
 // Puts a question to the answerer and to the second method.
-use crate::chain::Chain;
 use crate::chain::spelled;
 use crate::counts::DERIVED;
 use crate::rules::Rules;
+use crate::sample::Question;
 use crate::second::derives;
 use crate::text::part;
 use answerer::Answer;
@@ -14,20 +14,14 @@ pub(crate) struct Compared {
 }
 
 // Puts a question about a book to its tables and to its rules.
-pub(crate) fn compare(
-    kind: usize,
-    heads: &[u16],
-    moves: &[u16],
-    rules: Rules,
-    role: u64,
-    chain: Chain,
-) -> Compared {
+pub(crate) fn compare(heads: &[u16], moves: &[u16], rules: Rules, question: Question) -> Compared {
+    let chain = question.chain;
     let space = spelled(chain);
     let links = part(&space, 0, chain.size);
-    let first = answerer::ask(heads, moves, (role % 256) as u8, links);
-    let second = derives(rules, role, chain);
+    let first = answerer::ask(heads, moves, (question.role % 256) as u8, links);
+    let second = derives(rules, question.role, chain);
     Compared {
-        agreed: expected(kind, first, second),
+        agreed: expected(question.kind, first, second),
         yes: second,
     }
 }

@@ -1,8 +1,6 @@
 // What a line of the script asks for. It begins with a letter; then come a text, a bar and lists of numbers, each with its length first.
-use crate::every::every_chain;
 use crate::print::answer;
 use crate::print::line;
-use crate::seeded::made_books;
 use crate::text::byte;
 use crate::text::find;
 use crate::text::moves_of;
@@ -10,6 +8,8 @@ use crate::text::numbers_of;
 use crate::text::part;
 use crate::text::read_list;
 use crate::text::read_number;
+use crate::trial::try_every;
+use crate::trial::try_made;
 use builder::Outcome;
 
 // Tries a line; whether the two methods agree.
@@ -33,7 +33,7 @@ pub(crate) fn try_line(s: &[u8]) -> bool {
         b'e' => ask_every(text, numbers),
         b's' => {
             line(text);
-            made_books();
+            try_made();
             true
         }
         _ => {
@@ -103,6 +103,5 @@ fn ask_every(text: &[u8], s: &[u8]) -> bool {
     let book = read_list(s, 1);
     let questions = read_number(s, book.next);
     let bytes = book.bytes;
-    io::write_all(1, text);
-    every_chain(part(&bytes, 0, book.size), questions.value)
+    try_every(text, part(&bytes, 0, book.size), questions.value)
 }

@@ -5,15 +5,14 @@ mod chain;
 mod compare;
 mod counts;
 mod draw;
-mod every;
 mod line;
 mod make;
 mod print;
 mod rules;
 mod sample;
 mod second;
-mod seeded;
 mod text;
+mod trial;
 
 use line::try_line;
 use text::find;

@@ -84,12 +84,13 @@ fn write_rule(made: Made, seed: u64, right: usize, low: usize, roles: usize) -> 
     let drawn = draw_links(size.seed, size.value, low, roles);
     let role = right as u64;
     let left = own_links(drawn.chain, form.value, role);
+    let rule = splice(push(one(role), left.size as u64), 2, 0, left);
     let before = made.book;
-    let book = put_rule(before, made.size, role, left);
+    let book = put_rule(before, made.size, rule);
     Made {
         seed: drawn.seed,
         book: book,
-        size: made.size % 96 + 2 + left.size % 16,
+        size: made.size % 96 + rule.size % 16,
         marks: made.marks | 1 << form.value % 64 | role % 2 << 6,
     }
 }
@@ -160,16 +161,13 @@ fn own_links(left: Chain, form: usize, right: u64) -> Chain {
     }
 }
 
-// Writes a rule at a place.
-fn put_rule(before: [u8; 96], at: usize, right: u64, left: Chain) -> [u8; 96] {
+// Writes the bytes of a rule at a place.
+fn put_rule(before: [u8; 96], at: usize, rule: Chain) -> [u8; 96] {
     let mut book = before;
-    let start = at % 96;
-    let size = left.size % 16;
-    book[start] = (right % 256) as u8;
-    book[(start + 1) % 96] = size as u8;
+    let size = rule.size % 16;
     let mut i = 0;
     while i < size {
-        book[(start + 2 + i) % 96] = (link(left, i) % 256) as u8;
+        book[(at % 96 + i) % 96] = (link(rule, i) % 256) as u8;
         i += 1;
     }
     book

@@ -10,9 +10,10 @@ pub(crate) struct Rule {
     pub(crate) left: Chain,
 }
 
-// The rules, and 8 places after each its mirror.
+// The numbers of a book's last name and last rule; the rules, and 8 places after each its mirror.
 pub(crate) struct Rules {
-    pub(crate) count: usize,
+    pub(crate) last_name: usize,
+    pub(crate) last_rule: usize,
     pub(crate) all: [Rule; 16],
 }
 
@@ -33,7 +34,8 @@ pub(crate) fn rules_of(book: &[u8]) -> Rules {
         i += 1;
     }
     Rules {
-        count: count,
+        last_name: (wide(byte(book, 5)) + 63) % 64,
+        last_rule: (count + 7) % 8,
         all: all,
     }
 }
@@ -62,9 +64,6 @@ fn mirror(rule: Rule) -> Rule {
 
 // Rule i, counted round and round, or its mirror where `mirrored` is 1.
 pub(crate) fn nth(rules: Rules, i: usize, mirrored: usize) -> Rule {
-    if rules.count == 0 {
-        return rules.all[0];
-    }
-    let at = i % rules.count % 8 + mirrored % 2 * 8;
+    let at = i % (rules.last_rule % 8 + 1) % 8 + mirrored % 2 * 8;
     rules.all[at]
 }

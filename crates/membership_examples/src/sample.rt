@@ -1,9 +1,11 @@
-// Chains of up to 12 links made from a seed: derived from a role, nearly derived, or random.
+// Questions about a book: every chain in turn, or chains of up to 12 links made from a seed: derived from a role, nearly derived, or random.
+ghost use Prim.Native.Nat.{_≤_};
 use crate::chain::Chain;
 use crate::chain::link;
 use crate::chain::one;
 use crate::chain::push;
 use crate::chain::splice;
+use crate::counts::EVERY;
 use crate::counts::NEARLY;
 use crate::counts::RANDOM;
 use crate::draw::draw;
@@ -17,8 +19,41 @@ pub(crate) struct Sampled {
     pub(crate) chain: Chain,
 }
 
+// A question: its kind, its role and its chain; and the next seed.
+pub(crate) struct Question {
+    pub(crate) kind: usize,
+    pub(crate) role: u64,
+    pub(crate) chain: Chain,
+    pub(crate) seed: u64,
+}
+
+// Question i about a book: about each role, of every chain in turn; or from the seed, about the right role of each rule in turn or about its
+// inverse, twenty of each kind.
+pub(crate) fn nth_question(every: bool, i: usize, seed: u64, rules: Rules) -> Question {
+    let roles = rules.last_name % 64 * 2 + 2;
+    if every {
+        let chain = nth_chain(i / roles, roles);
+        return Question {
+            kind: EVERY,
+            role: (i % roles) as u64,
+            chain: chain,
+            seed: seed,
+        };
+    }
+    let mirrored = draw(seed, 2);
+    let rule = nth(rules, i, mirrored.value);
+    let made = sample(i / 20, mirrored.seed, rules, rule.right, roles);
+    let chain = made.chain;
+    Question {
+        kind: i / 20,
+        role: rule.right,
+        chain: chain,
+        seed: made.seed,
+    }
+}
+
 // A chain of a kind, for a role of a book that has `roles` roles.
-pub(crate) fn sample(kind: usize, seed: u64, rules: Rules, role: u64, roles: usize) -> Sampled {
+fn sample(kind: usize, seed: u64, rules: Rules, role: u64, roles: usize) -> Sampled {
     if kind == RANDOM {
         let size = draw_small(seed, 12);
         return draw_links(size.seed, size.value, 0, roles);
@@ -28,6 +63,24 @@ pub(crate) fn sample(kind: usize, seed: u64, rules: Rules, role: u64, roles: usi
         return nearly(made, roles);
     }
     made
+}
+
+// Chain n of the chains over some roles, shorter ones first and none over 8 links.
+fn nth_chain(n: usize, roles: usize) -> Chain
+    requires { ⌜ 1 ≤ roles ⌝ }
+{
+    let mut chain = Chain { links: 0, size: 0 };
+    let mut rest = n;
+    let mut turns = 8usize;
+    while 0 < turns {
+        turns -= 1;
+        chain = push(chain, (rest % roles) as u64);
+        if rest < roles {
+            return chain;
+        }
+        rest = (rest - roles) / roles;
+    }
+    chain
 }
 
 // Links drawn among the `roles` roles from `low` on.

@@ -1,4 +1,4 @@
-// Compares the two methods on books made from a seed, each with derived, nearly derived and random chains.
+// Tries books: their questions are put to both methods and counted, up to the first difference.
 use crate::compare::compare;
 use crate::counts::ACCEPTED;
 use crate::counts::MADE;
@@ -8,46 +8,58 @@ use crate::counts::STATES;
 use crate::counts::add;
 use crate::counts::add_question;
 use crate::counts::tell;
-use crate::draw::draw;
 use crate::make::make_book;
 use crate::print::label;
 use crate::print::line;
-use crate::rules::nth;
 use crate::rules::rules_of;
-use crate::sample::sample;
-use crate::text::byte;
+use crate::sample::nth_question;
 use crate::text::moves_of;
 use crate::text::numbers_of;
 use crate::text::part;
-use crate::text::wide;
 use builder::Outcome;
 
-// How far the trial is: the next seed, the counts, and whether the two methods agreed so far.
+// How far it is: the next seed, the counts, and whether the two methods agreed.
 struct Trial {
     seed: u64,
     counts: [u64; 32],
     agreed: bool,
 }
 
-// Makes books and asks their questions up to the first difference, and tells the counts.
-pub(crate) fn made_books() {
-    let mut trial = Trial {
-        seed: 1,
-        counts: [0u64; 32],
-        agreed: true,
-    };
+// Tries a book on its first questions of every chain; whether the two methods agree.
+pub(crate) fn try_every(text: &[u8], book: &[u8], questions: usize) -> bool {
+    let trial = try_book(book, 0, true, questions, 0, [0u64; 32]);
+    let counts = trial.counts;
+    io::write_all(1, text);
+    tell(b": asked \x89, agreed \x8A, yes \x8B\n", &counts);
+    trial.agreed
+}
+
+// Tries 2,500 books made from a seed, each on 60 questions.
+pub(crate) fn try_made() {
+    let mut seed = 1;
+    let mut counts = [0u64; 32];
     let mut turns = 2500usize;
     while 0 < turns {
         turns -= 1;
-        let seed = trial.seed;
-        trial = try_book(trial);
+        let made = make_book(seed);
+        let book = made.book;
+        let trial = try_book(
+            part(&book, 0, made.size),
+            made.marks,
+            false,
+            60,
+            made.seed,
+            counts,
+        );
+        let more = trial.counts;
+        counts = more;
         if !trial.agreed {
             label(b"difference at the seed ", seed);
             line(b"");
             break;
         }
+        seed = trial.seed;
     }
-    let counts = trial.counts;
     report(&counts);
 }
 
@@ -66,30 +78,33 @@ fn report(counts: &[u64; 32]) {
     );
 }
 
-// Makes a book, builds its tables, and asks its questions where it is accepted.
-fn try_book(trial: Trial) -> Trial {
-    let made = make_book(trial.seed);
-    let before = trial.counts;
-    let counts = add(before, MADE, 1);
-    let space = made.book;
-    let book = part(&space, 0, made.size);
+// Builds the tables of a book and counts it by its marks; where it is accepted, asks so many questions, of every chain or from the seed.
+fn try_book(
+    book: &[u8],
+    marks: u64,
+    every: bool,
+    questions: usize,
+    seed: u64,
+    before: [u64; 32],
+) -> Trial {
     let mut heads = [0u16; 8];
     let mut moves = [0u16; 15360];
+    let counts = add(before, MADE, 1);
     let outcome = builder::build(book, &mut heads, &mut moves);
     match outcome {
         Outcome::Refused(refusal) => {
             let counts = add(counts, REFUSED + refusals::cause(refusal) % 12, 1);
             Trial {
-                seed: made.seed,
+                seed: seed,
                 counts: counts,
-                agreed: true,
+                agreed: !every,
             }
         }
         Outcome::Built(built) => {
             let heads = numbers_of(&heads, built.names);
             let moves = moves_of(&moves, built.transitions);
-            let counts = add_book(counts, made.marks, built.states);
-            questions(book, heads, moves, made.seed, counts)
+            let counts = add_book(counts, marks, built.states);
+            ask_all(book, heads, moves, every, questions, seed, counts)
         }
     }
 }
@@ -108,22 +123,26 @@ fn add_book(before: [u64; 32], marks: u64, states: usize) -> [u64; 32] {
     counts
 }
 
-// Twenty questions with chains of each kind, about the right role of each rule in turn, or about its inverse.
-fn questions(book: &[u8], heads: &[u16], moves: &[u16], seed: u64, before: [u64; 32]) -> Trial {
+// Asks so many questions about a book, up to the first difference.
+fn ask_all(
+    book: &[u8],
+    heads: &[u16],
+    moves: &[u16],
+    every: bool,
+    questions: usize,
+    seed: u64,
+    before: [u64; 32],
+) -> Trial {
     let rules = rules_of(book);
-    let roles = 2 * wide(byte(book, 5));
     let mut counts = before;
     let mut next = seed;
     let mut agreed = true;
     let mut i = 0;
-    while i < 60 {
-        let kind = i / 20;
-        let mirrored = draw(next, 2);
-        let rule = nth(rules, i, mirrored.value);
-        let made = sample(kind, mirrored.seed, rules, rule.right, roles);
-        let compared = compare(kind, heads, moves, rules, rule.right, made.chain);
-        next = made.seed;
-        let more = add_question(counts, kind, compared);
+    while i < questions {
+        let question = nth_question(every, i, next, rules);
+        next = question.seed;
+        let compared = compare(heads, moves, rules, question);
+        let more = add_question(counts, question.kind, compared);
         counts = more;
         if !compared.agreed {
             agreed = false;

@@ -1,7 +1,7 @@
 -- `nth_chain` is safe and ends.
 use borrow.Author.Needs.{needs}
-use Rattle.membership_examples.proofs.every.nth_chain.Statement.{statement}
-use Rattle.membership_examples.proofs.every.nth_chain.Tie as tie
+use Rattle.membership_examples.proofs.sample.nth_chain.Statement.{statement}
+use Rattle.membership_examples.proofs.sample.nth_chain.Tie as tie
 
 abbrev Inv-loop : tie.InvT-loop
 Inv-loop n roles chain₀ rest₀ turns₀ chain rest turns = Unit
@@ -15,7 +15,6 @@ nth-chain-spec =
     (tie.spec
     Inv-loop
     μ-loop
-    (λ c. search needs)
     (λ c. search needs)
     (λ c. search needs)
     (λ c. search needs)

@@ -1,8 +1,8 @@
 -- `add_book` is safe and ends.
 use Prim.Native.Nat.{_-_}
 use borrow.Author.Needs.{needs}
-use Rattle.membership_examples.proofs.seeded.add_book.Statement.{statement}
-use Rattle.membership_examples.proofs.seeded.add_book.Tie as tie
+use Rattle.membership_examples.proofs.trial.add_book.Statement.{statement}
+use Rattle.membership_examples.proofs.trial.add_book.Tie as tie
 
 abbrev Inv-loop : tie.InvT-loop
 Inv-loop marks states counts₀ i₀ counts i = Unit
