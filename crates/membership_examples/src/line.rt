@@ -1,4 +1,5 @@
 // What a line of the script asks for. It begins with a letter; then come a text, a bar and lists of numbers, each with its length first.
+use crate::counts::tell;
 use crate::print::answer;
 use crate::print::line;
 use crate::text::byte;
@@ -8,7 +9,7 @@ use crate::text::numbers_of;
 use crate::text::part;
 use crate::text::read_list;
 use crate::text::read_number;
-use crate::trial::try_every;
+use crate::trial::try_book;
 use crate::trial::try_made;
 use builder::Outcome;
 
@@ -98,10 +99,21 @@ fn ask(text: &[u8], heads: &[u16], moves: &[u16], s: &[u8], at: usize) {
     );
 }
 
-// Every chain of up to some length: the book, and how many questions there are.
+// Every chain of up to some length: the book, and how many questions there are. Whether the two methods agree.
 fn ask_every(text: &[u8], s: &[u8]) -> bool {
     let book = read_list(s, 1);
     let questions = read_number(s, book.next);
     let bytes = book.bytes;
-    try_every(text, part(&bytes, 0, book.size), questions.value)
+    let trial = try_book(
+        part(&bytes, 0, book.size),
+        0,
+        true,
+        questions.value,
+        0,
+        [0u64; 32],
+    );
+    let counts = trial.counts;
+    io::write_all(1, text);
+    tell(b": asked \x89, agreed \x8A, yes \x8B\n", &counts);
+    trial.agreed
 }

@@ -95,6 +95,9 @@ fn write_rule(made: Made, seed: u64, right: usize, low: usize, roles: usize) -> 
     }
 }
 
+// The form for each number drawn: 1, 2 and 3 more often.
+const FORMS: [usize; 8] = [1, 1, 2, 2, 3, 3, 4, 5];
+
 // A form from 1 to 5; 4 or 5 where there is no inner role.
 fn draw_form(seed: u64, roles: usize) -> Drawn {
     if roles == 0 {
@@ -105,49 +108,30 @@ fn draw_form(seed: u64, roles: usize) -> Drawn {
         };
     }
     let pick = draw(seed, 8);
-    if pick.value < 6 {
-        return Drawn {
-            seed: pick.seed,
-            value: 1 + pick.value / 2,
-        };
-    }
     Drawn {
         seed: pick.seed,
-        value: pick.value - 2,
+        value: FORMS[pick.value % 8],
     }
 }
 
-// The length of a left side of a form.
+// The most inner roles for each number drawn.
+const INNER: [usize; 4] = [7, 4, 4, 4];
+
+// The length of a left side of a form: 2 for form 4, 1 for form 5; else the inner roles, small numbers more often, and the right role itself in
+// forms 2 and 3.
 fn draw_size(seed: u64, form: usize) -> Drawn {
-    if form == 4 {
+    if 3 < form {
         return Drawn {
             seed: seed,
-            value: 2,
+            value: 6 - form % 6,
         };
     }
-    if form == 5 {
-        return Drawn {
-            seed: seed,
-            value: 1,
-        };
-    }
-    let inner = draw_inner(seed);
-    if form == 1 {
-        return inner;
-    }
+    let pick = draw(seed, 4);
+    let inner = draw_small(pick.seed, INNER[pick.value % 4]);
     Drawn {
         seed: inner.seed,
-        value: inner.value % 16 + 1,
+        value: inner.value % 16 + form / 2,
     }
-}
-
-// The number of inner roles: up to 4, in one rule of four up to 7.
-fn draw_inner(seed: u64) -> Drawn {
-    let quarter = draw(seed, 4);
-    if quarter.value == 0 {
-        return draw_small(quarter.seed, 7);
-    }
-    draw_small(quarter.seed, 4)
 }
 
 // A left side with the links that are the right role or its inverse.

@@ -6,11 +6,6 @@ pub(crate) fn line(text: &[u8]) {
     io::write_all(1, b"\n");
 }
 
-pub(crate) fn label(text: &[u8], n: u64) {
-    io::write_all(1, text);
-    io::print_decimal(1, n);
-}
-
 // What a question is answered with, in document 01's words and numbers.
 pub(crate) fn answer(text: &[u8], answer: Answer) {
     io::write_all(1, text);
@@ -22,7 +17,8 @@ pub(crate) fn answer(text: &[u8], answer: Answer) {
             line(b": no");
         }
         Answer::Refused(refusal) => {
-            label(b": refused ", questions::cause(refusal) as u64);
+            io::write_all(1, b": refused ");
+            io::print_decimal(1, questions::cause(refusal) as u64);
             line(b"");
         }
     }

@@ -5,10 +5,10 @@ use Rattle.membership_examples.proofs.rules.rules_of.Statement.{stateme
 use Rattle.membership_examples.proofs.rules.rules_of.Tie as tie
 
 abbrev Inv-loop : tie.InvT-loop
-Inv-loop book all₀ count at₀ i₀ all at i = Unit
+Inv-loop book packed₀ count at₀ i₀ packed at i = Unit
 
 abbrev μ-loop : tie.MeasureT-loop
-μ-loop book all₀ count at₀ i₀ all at i = count - i
+μ-loop book packed₀ count at₀ i₀ packed at i = count - i
 
 pub rules-of-spec : {M : Type 1} → statement M
 rules-of-spec =
@@ -17,9 +17,6 @@ rules-of-spec =
     Inv-loop
     μ-loop
     (λ c κs. search needs)
-    (λ c κs. search needs)
-    (λ c. search needs)
-    (λ c κs. search needs)
     (λ c. search needs)
     (λ c. search needs)
     (λ c κs. search needs)
@@ -29,10 +26,8 @@ rules-of-spec =
     (λ c. search needs)
     (λ c. search needs)
     (λ c. search needs)
-    (λ c. search needs)
-    (λ c. search needs)
     (λ c κs. search needs)
-    (λ c κs. search needs)
+    (λ c. search needs)
     (λ c. search needs)
     (λ c. search needs)
     (λ c. search needs))
