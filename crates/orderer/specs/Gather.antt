@@ -20,6 +20,10 @@ use Rattle.orderer.specs.declared.Gathered.{Gathered}
 use Rattle.orderer.specs.declared.Gathered.the-variants.{Calm, Clash}
 use Rattle.orderer.specs.declared.Ordering.{Ordering}
 
+-- a relation on names that is transitive
+abbrev pub Transitive : (ℕ → ℕ → Bool) → Type 0
+Transitive lower = (x y z : ℕ) → lower x y ≡ true → lower y z ≡ true → lower x z ≡ true
+
 abbrev pub gathered : Bool → Gathered
 gathered false = Calm
 gathered true = Clash

@@ -81,7 +81,7 @@ module _ (s : List ℕ) (h : Header) (pre : map-result header-of (read s) ≡ ac
         pub gathers-next : r ≡ Calm → Gathers s new (k + 1)
         gathers-next q b i =
             let l = g b i in
-            let m = a (l .0) (l .2) in
+            let m = a (l .0) (l .1 .closed .order .transitive) (l .2) in
             let calm : clashes (l .0) ρ ≡ false = gathered-calm _ r (m .0) q in (
               with-rule (l .0) ρ,
               gathering-next b k (l .0) (l .1) (within b i) ρ (read-rule s b i k (within b i) ρ e) (read-some s b i k (within b i) ρ e) calm,
@@ -93,7 +93,7 @@ module _ (s : List ℕ) (h : Header) (pre : map-result header-of (read s) ≡ ac
             let b = some-book .0 in
             let i = some-book .1 in
             let l = g b i in
-            let clash : clashes (l .0) ρ ≡ true = gathered-clash _ r (a (l .0) (l .2) .0) q in
+            let clash : clashes (l .0) ρ ≡ true = gathered-clash _ r (a (l .0) (l .1 .closed .order .transitive) (l .2) .0) q in
             rw (ordered-from s b i, gathering-clash b k (l .0) (l .1) (within b i) ρ (read-rule s b i k (within b i) ρ e) clash) refl
 
   pub gathers-end : (masks : List ℕ) (k : ℕ) → h .rules ≤ k → Gathers s masks k

@@ -14,7 +14,7 @@ ghost use Rattle.format.specs.Format.{named};
 ghost use Rattle.format.specs.Format.{read as read-of};
 ghost use Rattle.causes.specs.Ordered.{ordered};
 ghost use Rattle.decoder.specs.Verdict.{header-of, says};
-ghost use Rattle.orderer.specs.Gather.{gathered, Ordered, Gathered-order};
+ghost use Rattle.orderer.specs.Gather.{gathered, Transitive, Ordered, Gathered-order};
 
 mod masks;
 mod shape;
@@ -99,7 +99,7 @@ pub enum Gathered {
 fn add_rule(left: &[u8], right: u8, masks: &mut [u64]) -> Gathered
     requires { ⌜ named 64 (right ∷ now left) ≡ true ⌝ }
     requires { ⌜ length (now masks) ≡ 64 ⌝ }
-    ensures { λ r. ⌜ ((lower : ℕ → ℕ → Bool) → Holds (now (masks .entry)) lower →
+    ensures { λ r. ⌜ ((lower : ℕ → ℕ → Bool) → Transitive lower → Holds (now (masks .entry)) lower →
         (r ≡ gathered (clashes lower (record { left = now (left .entry); right = right })))
         × (clashes lower (record { left = now (left .entry); right = right }) ≡ false
         → Holds (now (masks .exit)) (with-rule lower (record { left = now (left .entry); right = right })))) ⌝ }
@@ -114,6 +114,10 @@ fn add_rule(left: &[u8], right: u8, masks: &mut [u64]) -> Gathered
     if has(lower, over) {
         return Gathered::Clash;
     }
+    let below = masks[over];
+    if lower | below == below {
+        return Gathered::Calm; // nothing new: what is below the right name is below all names above it
+    }
     absorb(masks, over, lower);
     Gathered::Calm
 }
@@ -126,7 +130,10 @@ fn counted(masks: &[u64]) -> [u8; 64]
     let mut levels = [0u8; 64];
     let mut x = 0;
     while x < 64 {
-        levels[x] = u64::count_ones(masks[x]) as u8;
+        let mask = masks[x];
+        if mask != 0 {
+            levels[x] = u64::count_ones(mask) as u8;
+        }
         x += 1;
     }
     levels

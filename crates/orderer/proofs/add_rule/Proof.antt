@@ -1,11 +1,11 @@
--- `add_rule` meets its contract: by the shape there are no inner roles, or the mask of what they reach is tested and absorbed.
+-- `add_rule` meets its contract: by the shape there are no inner roles, or the mask of what they reach is tested and absorbed, unless all of it is known.
 use mathlib.Core.Logic.{⊎-elim}
 use mathlib.Core.Path.{sym, _∙_}
 use Prim.Native.Nat.{_<_, _+_, _-_}
 use native.Mathlib.Omega.{arith}
-use borrow.Author.Needs.{needs}
 use Rattle.format.specs.ReadLaws.{named-name, named-part}
-use Rattle.orderer.specs.AddLaws.{no-inner, row-within, row-inner, added-none, added-clash, added-calm}
+use Rattle.orderer.specs.AddLaws.{no-inner, row-within, row-inner, added-none, added-clash, added-known, added-calm}
+use borrow.Author.Needs.{needs}
 use Rattle.orderer.proofs.add_rule.Statement.{statement}
 use Rattle.orderer.proofs.add_rule.Tie as tie
 
@@ -52,14 +52,26 @@ same-length c = search needs
 returns-2 : tie.Need-returns-2
 returns-2 c = added-clash _ _ _ (row-inner _ _ _ (c .before .before .before .before .before .before .before .before .before .before .shape-of .ensures) _ (c .before .before .before .before .before .before .before .before .row .given .1)) _ (c .before .before .before .reached .ensures) _ (c .before .before .name .ensures) (over-small (c .before .before)) _ (sym (c .before .has .ensures) ∙ c .if1 .taken)
 
-absorb-requires : tie.Need-absorb-requires
-absorb-requires c κs = (over-small (c .before .before .before), c .before .before .before .before .before .before .before .before .before .before .before .before .before .before .pre .1)
+mul-below : tie.Need-mul-below
+mul-below c = search needs
+
+slice-read-below : tie.Need-slice-read-below
+slice-read-below c = omega (arith, over-small (c .before .before .before), c .before .before .before .before .before .before .before .before .before .before .before .before .before .before .pre .1)
 
 same-length-2 : tie.Need-same-length-2
 same-length-2 c = search needs
 
 returns-3 : tie.Need-returns-3
-returns-3 c = added-calm _ _ _ (row-inner _ _ _ (c .before .before .before .before .before .before .before .before .before .before .before .before .before .before .shape-of .ensures) _ (c .before .before .before .before .before .before .before .before .before .before .before .before .row .given .1)) _ (c .before .before .before .before .before .before .before .reached .ensures) _ (c .before .before .before .before .before .before .name .ensures) (over-small (c .before .before .before .before .before .before)) _ (sym (c .before .before .before .before .before .has .ensures) ∙ c .before .before .before .before .if1 .left) (c .before .before .absorb .ensures)
+returns-3 c = added-known _ _ _ (row-inner _ _ _ (c .before .before .before .before .before .before .before .before .before .before .before .before .shape-of .ensures) _ (c .before .before .before .before .before .before .before .before .before .before .row .given .1)) _ (c .before .before .before .before .before .reached .ensures) _ (c .before .before .before .before .name .ensures) (over-small (c .before .before .before .before)) (sym (c .before .before .before .has .ensures) ∙ c .before .before .if1 .left) (c .if2 .taken)
+
+absorb-requires : tie.Need-absorb-requires
+absorb-requires c κs = (over-small (c .before .before .before .before .before), c .before .before .before .before .before .before .before .before .before .before .before .before .before .before .before .before .pre .1)
+
+same-length-3 : tie.Need-same-length-3
+same-length-3 c = search needs
+
+returns-4 : tie.Need-returns-4
+returns-4 c = added-calm _ _ _ (row-inner _ _ _ (c .before .before .before .before .before .before .before .before .before .before .before .before .before .before .before .before .shape-of .ensures) _ (c .before .before .before .before .before .before .before .before .before .before .before .before .before .before .row .given .1)) _ (c .before .before .before .before .before .before .before .before .before .reached .ensures) _ (c .before .before .before .before .before .before .before .before .name .ensures) (over-small (c .before .before .before .before .before .before .before .before)) _ (sym (c .before .before .before .before .before .before .before .has .ensures) ∙ c .before .before .before .before .before .before .if1 .left) (c .before .before .absorb .ensures)
 
 pub add-rule-spec : {M : Type 1} → statement M
 add-rule-spec =
@@ -78,6 +90,10 @@ add-rule-spec =
     has-requires
     same-length
     returns-2
-    absorb-requires
+    mul-below
+    slice-read-below
     same-length-2
-    returns-3)
+    returns-3
+    absorb-requires
+    same-length-3
+    returns-4)

@@ -1,10 +1,10 @@
--- `counted` meets its contract. The invariant: the levels passed count the names of their masks.
-use mathlib.Core.Path.{refl}
+-- `counted` meets its contract. The invariant: the levels passed count the names of their masks, and those left are 0.
+use mathlib.Core.Logic.{⊎-elim}
 use Prim.Native.Nat.{_≤_, _-_}
 use native.Mathlib.Omega.{arith}
 use borrow.Author.Needs.{needs}
 use lib.Count.{ones-le}
-use Rattle.order.specs.CountLaws.{Counting, counting-start, counting-next}
+use Rattle.order.specs.CountLaws.{Counting, counting-start, counting-empty, counting-next}
 use Rattle.orderer.proofs.counted.Statement.{statement}
 use Rattle.orderer.proofs.counted.Tie as tie
 
@@ -15,16 +15,16 @@ abbrev μ-loop : tie.MeasureT-loop
 μ-loop masks levels₀ x₀ levels x = 64 - x
 
 loop-holds : tie.Need-loop-holds Inv-loop μ-loop
-loop-holds c = (omega arith, counting-start _ _ refl)
+loop-holds c = (omega arith, counting-start _)
 
-mul-levels : tie.Need-mul-levels Inv-loop μ-loop
-mul-levels c = search needs
+mul-mask : tie.Need-mul-mask Inv-loop μ-loop
+mul-mask c = search needs
 
-shared-slice-read-levels : tie.Need-shared-slice-read-levels Inv-loop μ-loop
-shared-slice-read-levels c = search needs
+shared-slice-read-mask : tie.Need-shared-slice-read-mask Inv-loop μ-loop
+shared-slice-read-mask c = search needs
 
 cast-levels : tie.Need-cast-levels Inv-loop μ-loop
-cast-levels c = omega (arith, ones-le 64 _ (c .shared-slice-known .given (c .before .before .loop .x) .fits))
+cast-levels c = omega (arith, ones-le 64 _ (c .before .shared-slice-known .given (c .before .before .before .loop .x) .fits))
 
 array-write-levels : tie.Need-array-write-levels Inv-loop μ-loop
 array-write-levels c = search needs
@@ -36,10 +36,16 @@ loop-less : tie.Need-loop-less Inv-loop μ-loop
 loop-less c = search needs
 
 loop-again : tie.Need-loop-again Inv-loop μ-loop
-loop-again c = (omega arith, counting-next _ _ _ (c .before .loop-test .taken) (c .shared-slice-known .given (c .before .before .loop .x) .fits) (c .before .before .loop .inv .1))
+loop-again c = (
+  omega (arith, c .before .before .loop-test .taken),
+  ⊎-elim
+      (λ w. rw (w .1) (counting-next _ _ _ (c .before .before .loop-test .taken) (c .before .shared-slice-known .given (c .before .before .before .loop .x) .fits) (c .before .before .before .loop .inv .1)))
+      (λ w. rw (w .1) (counting-empty _ _ _ (c .before .before .loop-test .taken) (w .0 .left) (c .before .before .before .loop .inv .1)))
+      (c .if1 .came),
+)
 
 returns : tie.Need-returns Inv-loop μ-loop
-returns c = (c .before .loop .inv .1 .size, λ x p. c .before .loop .inv .1 .past x (omega arith))
+returns c = (c .before .loop .inv .1 .size, λ x p. c .before .loop .inv .1 .past x (omega (arith, c .loop-test .left)))
 
 pub counted-spec : {M : Type 1} → statement M
 counted-spec =
@@ -48,8 +54,8 @@ counted-spec =
     Inv-loop
     μ-loop
     loop-holds
-    mul-levels
-    shared-slice-read-levels
+    mul-mask
+    shared-slice-read-mask
     cast-levels
     array-write-levels
     add-x
