@@ -1,6 +1,7 @@
 // Counts of books and questions, and the lines that tell them.
 use crate::compare::Compared;
-use crate::text::wide;
+use crate::text::byte;
+use crate::text::part;
 
 // Kinds of chains: derived from the role, nearly derived, random, and every chain in turn.
 pub(crate) const DERIVED: usize = 0;
@@ -41,14 +42,14 @@ pub(crate) fn add(counts: [u64; 32], at: usize, n: u64) -> [u64; 32] {
 }
 
 // Writes a text in which the byte 128 + i stands for count i.
-pub(crate) fn tell(text: &[u8], counts: &[u64; 32]) {
+pub(crate) fn tell(text: &[u8], counts: [u64; 32]) {
     let mut i = 0;
     while i < text.len() {
-        let byte = wide(text[i]);
-        if byte < 128 {
-            io::write_all(1, &text[i..i + 1]);
+        let code = byte(text, i) as usize;
+        if code < 128 {
+            io::write_all(1, part(text, i, i + 1));
         } else {
-            io::print_decimal(1, counts[byte % 32]);
+            io::print_decimal(1, counts[code % 32]);
         }
         i += 1;
     }

@@ -4,7 +4,6 @@ use crate::print::answer;
 use crate::print::line;
 use crate::text::byte;
 use crate::text::find;
-use crate::text::moves_of;
 use crate::text::numbers_of;
 use crate::text::part;
 use crate::text::read_list;
@@ -19,16 +18,12 @@ pub(crate) fn try_line(s: &[u8]) -> bool {
     let text = part(s, 1, bar);
     let numbers = part(s, bar, s.len());
     match byte(s, 0) {
-        b'b' => {
-            ask_built(text, numbers, false);
+        b'w' => {
+            ask_tables(text, numbers, true);
             true
         }
         b'a' => {
-            ask_built(text, numbers, true);
-            true
-        }
-        b't' => {
-            ask_tables(text, numbers);
+            ask_tables(text, numbers, false);
             true
         }
         b'e' => ask_every(text, numbers),
@@ -44,42 +39,33 @@ pub(crate) fn try_line(s: &[u8]) -> bool {
     }
 }
 
-// A question to tables that no book gave: heads, moves, the role and the chain.
-fn ask_tables(text: &[u8], s: &[u8]) {
-    let heads = read_list(s, 1);
-    let moves = read_list(s, heads.next);
-    let head_numbers = heads.numbers;
-    let move_numbers = moves.numbers;
-    ask(
-        text,
-        numbers_of(&head_numbers, heads.size),
-        numbers_of(&move_numbers, moves.size),
-        s,
-        moves.next,
-    );
-}
-
-// A question to the tables of a book, built in longer memory: the book, the role and the chain. It is lent the written numbers alone, or all of
-// them. Nothing is written where the book is refused.
-fn ask_built(text: &[u8], s: &[u8], all: bool) {
+// A question to tables: a book, heads and moves, the role and the chain. The book is built in the heads and moves; where it is no book they stay as
+// they are. The question is lent the written numbers alone, or all.
+fn ask_tables(text: &[u8], s: &[u8], written: bool) {
     let book = read_list(s, 1);
+    let head_list = read_list(s, book.next);
+    let move_list = read_list(s, head_list.next);
     let bytes = book.bytes;
-    let mut heads = [9999u16; 8];
-    let mut moves = [9999u16; 96];
-    let Outcome::Built(built) = builder::build(part(&bytes, 0, book.size), &mut heads, &mut moves)
-    else {
-        return;
-    };
-    if all {
-        ask(text, &heads, &moves, s, book.next);
-        return;
+    let mut heads = head_list.numbers;
+    let mut moves = move_list.numbers;
+    let mut names = head_list.size;
+    let mut numbers = move_list.size;
+    if let Outcome::Built(built) = builder::build(
+        part(&bytes, 0, book.size),
+        &mut heads,
+        &mut moves,
+    ) {
+        if written {
+            names = built.names;
+            numbers = built.transitions % 5121 * 3;
+        }
     }
     ask(
         text,
-        numbers_of(&heads, built.names),
-        moves_of(&moves, built.transitions),
+        numbers_of(&heads, names),
+        numbers_of(&moves, numbers),
         s,
-        book.next,
+        move_list.next,
     );
 }
 
@@ -114,6 +100,6 @@ fn ask_every(text: &[u8], s: &[u8]) -> bool {
     );
     let counts = trial.counts;
     io::write_all(1, text);
-    tell(b": asked \x89, agreed \x8A, yes \x8B\n", &counts);
+    tell(b": asked \x89, agreed \x8A, yes \x8B\n", counts);
     trial.agreed
 }

@@ -1,5 +1,4 @@
 // Parts of a text, and the numbers that are written in it. Every place is safe.
-ghost use Prim.Native.Nat.{_≤_};
 
 // The byte at a place; 0 past the end.
 pub(crate) fn byte(s: &[u8], at: usize) -> u8 {
@@ -7,12 +6,6 @@ pub(crate) fn byte(s: &[u8], at: usize) -> u8 {
         return s[at];
     }
     0
-}
-
-pub(crate) fn wide(byte: u8) -> usize
-    ensures { λ r. ⌜ r ≤ 255 ⌝ }
-{
-    byte as usize
 }
 
 // The bytes from a place to an end; none where the text has no such places.
@@ -29,7 +22,7 @@ pub(crate) fn part(s: &[u8], from: usize, end: usize) -> &[u8] {
 pub(crate) fn find(s: &[u8], from: usize, wanted: u8) -> usize {
     let mut i = from;
     while i < s.len() {
-        if s[i] == wanted {
+        if byte(s, i) == wanted {
             return i;
         }
         i += 1;
@@ -48,7 +41,7 @@ pub(crate) fn read_number(s: &[u8], at: usize) -> Number {
     let mut value = 0;
     let mut i = at;
     while i < s.len() {
-        let digit = wide(s[i]);
+        let digit = byte(s, i) as usize;
         if digit < 48 {
             break;
         }
