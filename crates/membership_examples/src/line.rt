@@ -1,4 +1,6 @@
 // What a line of the script asks for. It begins with a letter; then come a text, a bar and lists of numbers, each with its length first.
+use crate::built::Tables;
+use crate::built::build;
 use crate::counts::tell;
 use crate::print::answer;
 use crate::print::line;
@@ -10,7 +12,6 @@ use crate::text::read_list;
 use crate::text::read_number;
 use crate::trial::try_book;
 use crate::trial::try_made;
-use builder::Outcome;
 
 // Tries a line; whether the two methods agree.
 pub(crate) fn try_line(s: &[u8]) -> bool {
@@ -43,42 +44,39 @@ pub(crate) fn try_line(s: &[u8]) -> bool {
 // they are. The question is lent the written numbers alone, or all.
 fn ask_tables(text: &[u8], s: &[u8], written: bool) {
     let book = read_list(s, 1);
-    let head_list = read_list(s, book.next);
-    let move_list = read_list(s, head_list.next);
+    let heads = read_list(s, book.next);
+    let moves = read_list(s, heads.next);
     let bytes = book.bytes;
-    let mut heads = head_list.numbers;
-    let mut moves = move_list.numbers;
-    let mut names = head_list.size;
-    let mut numbers = move_list.size;
-    if let Outcome::Built(built) = builder::build(
-        part(&bytes, 0, book.size),
-        &mut heads,
-        &mut moves,
-    ) {
-        if written {
-            names = built.names;
-            numbers = built.transitions % 5121 * 3;
-        }
+    let head_numbers = heads.numbers;
+    let move_numbers = moves.numbers;
+    let before = Tables {
+        heads: head_numbers,
+        names: heads.size,
+        moves: move_numbers,
+        numbers: moves.size,
+        states: 0,
+        cause: 0,
+    };
+    let built = build(part(&bytes, 0, book.size), before);
+    if written {
+        ask(text, built, built.names, built.numbers, s, moves.next);
+    } else {
+        ask(text, built, heads.size, moves.size, s, moves.next);
     }
-    ask(
-        text,
-        numbers_of(&heads, names),
-        numbers_of(&moves, numbers),
-        s,
-        move_list.next,
-    );
 }
 
-// Puts the question at a place, the role and the chain, to tables, and writes the answer.
-fn ask(text: &[u8], heads: &[u16], moves: &[u16], s: &[u8], at: usize) {
+// Puts the question at a place, the role and the chain, to so many numbers of tables, and writes the answer.
+fn ask(text: &[u8], tables: Tables, names: usize, numbers: usize, s: &[u8], at: usize) {
+    let heads = tables.heads;
+    let moves = tables.moves;
     let role = read_number(s, at);
     let chain = read_list(s, role.next);
     let links = chain.bytes;
     answer(
         text,
         answerer::ask(
-            heads,
-            moves,
+            numbers_of(&heads, names),
+            numbers_of(&moves, numbers),
             (role.value % 256) as u8,
             part(&links, 0, chain.size),
         ),

@@ -1,6 +1,7 @@
 // Tries the answerer on document 01's questions, on tables that no book gave and on every edge of causes 12 to 14; then compares it with a
 // second method, which decides derivation from the rules alone. `stdin` holds what is tried, a line each; `stdout` holds what the program must
 // write.
+mod built;
 mod chain;
 mod compare;
 mod counts;

@@ -51,19 +51,34 @@ fn header(names: usize, rules: usize) -> [u8; 96] {
     book
 }
 
-// Adds a rule whose inner roles have lower names than its right role, or higher ones.
+// Adds a rule: its inner roles are among those of lower names than its right role, or of higher ones; where there are none it is of form 4 or 5.
 fn add_rule(made: Made, names: usize, higher: bool) -> Made
     requires { ⌜ 2 ≤ names ⌝ }
     requires { ⌜ names ≤ 7 ⌝ }
 {
     let level = draw_level(made.seed, names);
     let polarity = draw(level.seed, 2);
-    let roles = 2 * level.value;
+    let mut name = level.value;
+    let mut low = 0;
     if higher {
-        let low = 2 * (names - level.value);
-        return write_rule(made, polarity.seed, low - 2 + polarity.value, low, roles);
+        name = names - 1 - level.value;
+        low = 2 * (names - level.value);
     }
-    write_rule(made, polarity.seed, roles + polarity.value, 0, roles)
+    let right = (name % 8 * 2 + polarity.value) as u64;
+    let roles = 2 * level.value;
+    let form = draw_form(polarity.seed, roles);
+    let size = draw_size(form.seed, form.value);
+    let drawn = draw_links(size.seed, size.value, low, roles);
+    let left = own_links(drawn.chain, form.value, right);
+    let rule = splice(push(one(right), left.size as u64), 2, 0, left);
+    let before = made.book;
+    let book = put_rule(before, made.size, rule);
+    Made {
+        seed: drawn.seed,
+        book: book,
+        size: made.size % 96 + rule.size % 16,
+        marks: made.marks | 1 << form.value % 64 | right % 2 << 6,
+    }
 }
 
 // The number of names that inner roles may have; none less often.
@@ -75,24 +90,6 @@ fn draw_level(seed: u64, names: usize) -> Drawn
         return draw(level.seed, names);
     }
     level
-}
-
-// Writes a rule with inner roles among the `roles` roles from `low` on, or of form 4 or 5 where there are none.
-fn write_rule(made: Made, seed: u64, right: usize, low: usize, roles: usize) -> Made {
-    let form = draw_form(seed, roles);
-    let size = draw_size(form.seed, form.value);
-    let drawn = draw_links(size.seed, size.value, low, roles);
-    let role = right as u64;
-    let left = own_links(drawn.chain, form.value, role);
-    let rule = splice(push(one(role), left.size as u64), 2, 0, left);
-    let before = made.book;
-    let book = put_rule(before, made.size, rule);
-    Made {
-        seed: drawn.seed,
-        book: book,
-        size: made.size % 96 + rule.size % 16,
-        marks: made.marks | 1 << form.value % 64 | role % 2 << 6,
-    }
 }
 
 // The form for each number drawn: 1, 2 and 3 more often.

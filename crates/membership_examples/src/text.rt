@@ -93,12 +93,3 @@ pub(crate) fn numbers_of(s: &[u16], n: usize) -> &[u16] {
     }
     &s[0..0]
 }
-
-// The numbers of the first n moves; none where there are fewer.
-pub(crate) fn moves_of(s: &[u16], n: usize) -> &[u16] {
-    if n <= s.len() / 3 {
-        let end = 3 * n;
-        return &s[0..end];
-    }
-    &s[0..0]
-}

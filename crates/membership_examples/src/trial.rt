@@ -1,4 +1,6 @@
 // Tries books: their questions are put to both methods and counted, up to the first difference.
+use crate::built::Tables;
+use crate::built::build;
 use crate::compare::compare;
 use crate::counts::ACCEPTED;
 use crate::counts::MADE;
@@ -11,10 +13,8 @@ use crate::counts::tell;
 use crate::make::make_book;
 use crate::rules::rules_of;
 use crate::sample::nth_question;
-use crate::text::moves_of;
 use crate::text::numbers_of;
 use crate::text::part;
-use builder::Outcome;
 
 // How far it is: the next seed, the counts, and whether the two methods agreed.
 pub(crate) struct Trial {
@@ -66,25 +66,26 @@ pub(crate) fn try_book(
     seed: u64,
     before: [u64; 32],
 ) -> Trial {
-    let mut heads = [0u16; 8];
-    let mut moves = [0u16; 15360];
+    let none = [0u16; 15363];
+    let empty = Tables {
+        heads: none,
+        names: 0,
+        moves: none,
+        numbers: 0,
+        states: 0,
+        cause: 0,
+    };
+    let tables = build(book, empty);
     let counts = add(before, MADE, 1);
-    let outcome = builder::build(book, &mut heads, &mut moves);
-    match outcome {
-        Outcome::Refused(refusal) => {
-            let counts = add(counts, REFUSED + refusals::cause(refusal) % 12, 1);
-            Trial {
-                seed: seed,
-                counts: counts,
-                agreed: !every,
-            }
-        }
-        Outcome::Built(built) => {
-            let heads = numbers_of(&heads, built.names);
-            let moves = moves_of(&moves, built.transitions);
-            let counts = add_book(counts, marks, built.states);
-            ask_all(book, heads, moves, every, questions, seed, counts)
-        }
+    if tables.cause == 0 {
+        let counts = add_book(counts, marks, tables.states);
+        return ask_all(book, tables, every, questions, seed, counts);
+    }
+    let counts = add(counts, REFUSED + tables.cause % 12, 1);
+    Trial {
+        seed: seed,
+        counts: counts,
+        agreed: !every,
     }
 }
 
@@ -105,14 +106,17 @@ fn add_book(before: [u64; 32], marks: u64, states: usize) -> [u64; 32] {
 // Asks so many questions about a book, up to the first difference.
 fn ask_all(
     book: &[u8],
-    heads: &[u16],
-    moves: &[u16],
+    tables: Tables,
     every: bool,
     questions: usize,
     seed: u64,
     before: [u64; 32],
 ) -> Trial {
     let rules = rules_of(book);
+    let head_numbers = tables.heads;
+    let move_numbers = tables.moves;
+    let heads = numbers_of(&head_numbers, tables.names);
+    let moves = numbers_of(&move_numbers, tables.numbers);
     let mut counts = before;
     let mut next = seed;
     let mut agreed = true;
