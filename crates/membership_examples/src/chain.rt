@@ -37,6 +37,17 @@ pub(crate) fn splice(chain: Chain, i: usize, count: usize, part: Chain) -> Chain
     }
 }
 
+// The chain read backwards, each role inverted.
+pub(crate) fn inverse(chain: Chain) -> Chain {
+    let mut turned = Chain { links: 0, size: 0 };
+    let mut i = chain.size;
+    while 0 < i {
+        i -= 1;
+        turned = push(turned, link(chain, i) ^ 1);
+    }
+    turned
+}
+
 // The links as bytes.
 pub(crate) fn spelled(chain: Chain) -> [u8; 16] {
     let mut bytes = [0u8; 16];

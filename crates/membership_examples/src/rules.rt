@@ -1,30 +1,25 @@
 // The rules of a well-formed book of up to 8 rules over roles below 16, read from its bytes.
 use crate::chain::Chain;
+use crate::chain::inverse;
+use crate::chain::push;
 use crate::text::byte;
 
-pub(crate) struct Rule {
-    pub(crate) right: u64,
-    pub(crate) left: Chain,
-}
-
-// The numbers of a book's last name and last rule; the rules, and 8 places after each its mirror. A rule is one number: 4 bits for its right role,
-// 4 for the length of its left side, then its links.
+// The numbers of a book's last name and last rule, and the bytes of each rule, packed like the links of a chain: right role, length, left roles.
 pub(crate) struct Rules {
     pub(crate) last_name: usize,
     pub(crate) last_rule: usize,
-    pub(crate) packed: [u64; 16],
+    pub(crate) packed: [u64; 8],
 }
 
 pub(crate) fn rules_of(book: &[u8]) -> Rules {
-    let mut packed = [0u64; 16];
+    let mut packed = [0u64; 8];
     let count = byte(book, 6) as usize;
     let mut at = 8;
     let mut i = 0;
     while i < count {
-        let rule = rule_at(book, at % 4096);
-        packed[i % 8] = rule.plain;
-        packed[i % 8 + 8] = rule.mirrored;
-        at = at % 4096 + 2 + rule.size % 16;
+        let rule = rule_at(book, at);
+        packed[i % 8] = rule.links;
+        at = at % 4096 + rule.size % 16;
         i += 1;
     }
     Rules {
@@ -34,41 +29,41 @@ pub(crate) fn rules_of(book: &[u8]) -> Rules {
     }
 }
 
-// A rule and its mirror, each in one number, and the length of their left sides.
-struct Both {
-    plain: u64,
-    mirrored: u64,
-    size: usize,
-}
-
-fn rule_at(book: &[u8], at: usize) -> Both {
+// The bytes of the rule at a place.
+fn rule_at(book: &[u8], at: usize) -> Chain {
     let start = at % 4096;
-    let size = byte(book, start + 1) as usize % 16;
-    let mut left = 0;
-    let mut inverse = 0;
+    let size = byte(book, start + 1) as usize + 2;
+    let mut rule = Chain { links: 0, size: 0 };
     let mut i = 0;
     while i < size {
-        left = left << 4 | byte(book, start + 1 + size - i) as u64;
-        inverse = inverse << 4 | byte(book, start + 2 + i) as u64 ^ 1;
+        rule = push(rule, byte(book, start + i) as u64);
         i += 1;
     }
-    let front = byte(book, start) as u64 % 16 | (size as u64) << 4;
-    Both {
-        plain: left << 8 | front,
-        mirrored: inverse << 8 | front ^ 1,
-        size: size,
-    }
+    rule
+}
+
+pub(crate) struct Rule {
+    pub(crate) right: u64,
+    pub(crate) left: Chain,
 }
 
 // Rule i, counted round and round, or its mirror where `mirrored` is 1.
 pub(crate) fn nth(rules: Rules, i: usize, mirrored: usize) -> Rule {
-    let at = i % (rules.last_rule % 8 + 1) % 8 + mirrored % 2 * 8;
+    let at = i % (rules.last_rule % 8 + 1) % 8;
     let rule = rules.packed[at];
+    let left = Chain {
+        links: rule >> 8,
+        size: (rule >> 4) as usize % 16,
+    };
+    if mirrored == 0 {
+        return Rule {
+            right: rule % 16,
+            left: left,
+        };
+    }
+    let turned = inverse(left);
     Rule {
-        right: rule % 16,
-        left: Chain {
-            links: rule >> 8,
-            size: (rule >> 4) as usize % 16,
-        },
+        right: rule % 16 ^ 1,
+        left: turned,
     }
 }

@@ -119,7 +119,6 @@ fn ask_all(
     let moves = numbers_of(&move_numbers, tables.numbers);
     let mut counts = before;
     let mut next = seed;
-    let mut agreed = true;
     let mut i = 0;
     while i < questions {
         let question = nth_question(every, i, next, rules);
@@ -128,14 +127,17 @@ fn ask_all(
         let more = add_question(counts, question.kind, compared);
         counts = more;
         if !compared.agreed {
-            agreed = false;
-            break;
+            return Trial {
+                seed: next,
+                counts: counts,
+                agreed: false,
+            };
         }
         i += 1;
     }
     Trial {
         seed: next,
         counts: counts,
-        agreed: agreed,
+        agreed: true,
     }
 }
