@@ -1,60 +1,14 @@
+-- `numbers` is safe and ends.
 use Prim.Native.Nat.{_-_}
-use native.Mathlib.Omega.{arith}
 use borrow.Author.Needs.{needs}
-use lib.ListN.{length}
 use Rattle.builder_examples.proofs.print.numbers.Statement.{statement}
 use Rattle.builder_examples.proofs.print.numbers.Tie as tie
 
 abbrev Inv-loop : tie.InvT-loop
-Inv-loop text table i₀ t5 t6 i = Unit
+Inv-loop text table n i₀ t6 t7 i = Unit
 
 abbrev μ-loop : tie.MeasureT-loop
-μ-loop text table i₀ t5 t6 i = length table - i
-
-write-all-requires : tie.Need-write-all-requires Inv-loop μ-loop
-write-all-requires c κs = search needs
-
-slice-aggregate-write-all : tie.Need-slice-aggregate-write-all Inv-loop μ-loop
-slice-aggregate-write-all c = search needs
-
-write-all-requires-2 : tie.Need-write-all-requires-2 Inv-loop μ-loop
-write-all-requires-2 c κs = search needs
-
-loop-holds : tie.Need-loop-holds Inv-loop μ-loop
-loop-holds c = search needs
-
-slice-aggregate-label : tie.Need-slice-aggregate-label Inv-loop μ-loop
-slice-aggregate-label c = search needs
-
-mul-label : tie.Need-mul-label Inv-loop μ-loop
-mul-label c = search needs
-
-shared-slice-read-label : tie.Need-shared-slice-read-label Inv-loop μ-loop
-shared-slice-read-label c = search needs
-
-cast-label : tie.Need-cast-label Inv-loop μ-loop
-cast-label c = omega (arith, c .shared-slice-known3 .given (c .before .before .before .loop .i))
-
-label-requires : tie.Need-label-requires Inv-loop μ-loop
-label-requires c κs = search needs
-
-add-i : tie.Need-add-i Inv-loop μ-loop
-add-i c = search needs
-
-loop-less : tie.Need-loop-less Inv-loop μ-loop
-loop-less c = search needs
-
-loop-again : tie.Need-loop-again Inv-loop μ-loop
-loop-again c = search needs
-
-slice-aggregate-write-all-2 : tie.Need-slice-aggregate-write-all-2 Inv-loop μ-loop
-slice-aggregate-write-all-2 c = search needs
-
-write-all-requires-3 : tie.Need-write-all-requires-3 Inv-loop μ-loop
-write-all-requires-3 c κs = search needs
-
-returns : tie.Need-returns Inv-loop μ-loop
-returns c = search needs
+μ-loop text table n i₀ t6 t7 i = n - i
 
 pub numbers-spec : {M : Type 1} → statement M
 numbers-spec =
@@ -62,18 +16,18 @@ numbers-spec =
     (tie.spec
     Inv-loop
     μ-loop
-    write-all-requires
-    slice-aggregate-write-all
-    write-all-requires-2
-    loop-holds
-    slice-aggregate-label
-    mul-label
-    shared-slice-read-label
-    cast-label
-    label-requires
-    add-i
-    loop-less
-    loop-again
-    slice-aggregate-write-all-2
-    write-all-requires-3
-    returns)
+    (λ c. search needs)
+    (λ c κs. search needs)
+    (λ c. search needs)
+    (λ c κs. search needs)
+    (λ c. search needs)
+    (λ c. search needs)
+    (λ c κs. search needs)
+    (λ c. search needs)
+    (λ c κs. search needs)
+    (λ c. search needs)
+    (λ c. search needs)
+    (λ c. search needs)
+    (λ c. search needs)
+    (λ c κs. search needs)
+    (λ c. search needs))
