@@ -134,11 +134,10 @@ uint64_t rabbitsteel_ask(const uint16_t *heads, size_t heads_len, const uint16_t
 
 /*
  * Builds the tables of a book and asks them, lending the question the written numbers alone:
- * causes 1 to 11, then 12 to 14, of which 12 never holds of tables just built.
- * Accepted: *answer is 1 where the book's rules derive the chain from the role, and 0 elsewhere.
- * Refused: *answer is the value beside the cause.
- * Heads and moves are left as rabbitsteel_build leaves them, also where the question is refused;
- * the same lengths suffice.
+ * causes 1 to 11, then 13 and 14.
+ * Accepted: *answer is 1 where the book's rules derive the chain from the role, and 0 elsewhere;
+ * heads and moves are left as rabbitsteel_build leaves them, and the same lengths suffice.
+ * Refused: *answer is the value beside the cause; heads and moves keep what they held.
  */
 uint64_t rabbitsteel_derived(const uint8_t *book, size_t book_len, uint16_t *heads,
                              size_t heads_len, uint16_t *moves, size_t moves_len, uint8_t role,

@@ -55,7 +55,12 @@ fn hall() {
         let (mut heads, mut moves) = ([99; 4], [99; 54]);
         let reply = archive::derived(HALL, &mut heads, &mut moves, role, chain);
         assert_eq!(reply, owed);
-        assert_eq!((heads, moves), ([0, 2, 6, 8], HALL_MOVES));
+        let written = if owed.cause == 0 {
+            ([0, 2, 6, 8], HALL_MOVES)
+        } else {
+            ([99; 4], [99; 54])
+        };
+        assert_eq!((heads, moves), written);
     }
 }
 

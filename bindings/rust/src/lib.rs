@@ -142,8 +142,8 @@ pub fn ask(heads: &[u16], moves: &[u16], role: u8, chain: &[u8]) -> Result<bool,
 
 /// Builds the tables of a book in lent memory and asks them: causes 1 to 11, then 13 and 14.
 ///
-/// Yes exactly where the book's rules derive the chain from the role. `heads` and `moves` are left
-/// as [`build`] leaves them, also where the question is refused.
+/// Yes exactly where the book's rules derive the chain from the role. `heads` and `moves` then hold
+/// the book's tables, as after [`build`]; where the book or the question is refused, what they held.
 pub fn derived(
     book: &[u8],
     heads: &mut [u16],

@@ -229,11 +229,20 @@ fn questions_that_are_refused() {
 }
 
 #[test]
-fn refused_question_leaves_the_built_tables() {
-    let tables = Tables::of(&HALL).unwrap();
+fn refused_question_leaves_the_lent_tables() {
     let (mut heads, mut moves) = ([UNTOUCHED; 4], [UNTOUCHED; 54]);
     let answer = derived(&HALL, &mut heads, &mut moves, DUE, &[]);
     assert_eq!(answer, refused(Cause::Chain, 0));
+    let answer = derived(&HALL, &mut heads, &mut moves, role(4), &[PART]);
+    assert_eq!(answer, refused(Cause::Role, 0));
+    let answer = derived(&HALL, &mut heads[..3], &mut moves, DUE, &[]);
+    assert_eq!(answer, refused(Cause::Short, 0));
+    assert_eq!((heads, moves), ([UNTOUCHED; 4], [UNTOUCHED; 54]));
+    assert_eq!(
+        derived(&HALL, &mut heads, &mut moves, DUE, &[DUE]),
+        Ok(true)
+    );
+    let tables = Tables::of(&HALL).unwrap();
     assert_eq!((&heads[..], &moves[..]), (tables.heads(), tables.moves()));
 }
 

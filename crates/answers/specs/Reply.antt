@@ -6,7 +6,7 @@ use Prim.Native.Nat.{ℕ}
 use Rattle.roles.specs.Role.{Chain}
 use Rattle.roles.specs.Rule.{Book}
 use Rattle.roles.specs.Derivation.{Derives}
-use Rattle.format.specs.Result.{Result}
+use Rattle.format.specs.Result.{Result, and-then}
 use Rattle.format.specs.Result.Result.{refused, accepted}
 use Rattle.causes.specs.Built.{built}
 use Rattle.queries.specs.Query.{question}
@@ -22,3 +22,7 @@ pub data Decided (b : Book) (r : ℕ) (w : Chain) : Result Bool → Type 0 where
 pub data Replied (s : List ℕ) (heads moves : ℕ) (r : ℕ) (w : Chain) : Result Bool → Type 0 where
   turned-away : (cause value : ℕ) → built s heads moves ≡ refused cause value → Replied s heads moves r w (refused cause value)
   settled : (b : Book) (a : Result Bool) → built s heads moves ≡ accepted b → Decided b r w a → Replied s heads moves r w a
+
+-- the book that a question is put to, where tables of so many numbers are lent: causes 1 to 11, then 13 and 14
+abbrev pub posed : List ℕ → (heads moves : ℕ) → ℕ → Chain → Result Book
+posed s heads moves r w = and-then (built s heads moves) (λ b. and-then (question (b .names) r w) (λ _. accepted b))

@@ -1,17 +1,20 @@
 -- What each test of causes 9 to 11 settles, for a book with a regular order, and what an accepted book has passed.
-use mathlib.Core.Bool.{_&&_, and-false}
+use mathlib.Core.Bool.{Bool, true, false, _&&_, and-false}
 use mathlib.Core.List.{List}
 use mathlib.Core.Path.{_≡_, refl, ap, _∙_, subst}
 use Prim.Native.Nat.{ℕ, _*_, _<_, _≤_}
+use native.Mathlib.Omega.{arith}
 use borrow.Author.Tests.{le-leb, lt-leb, leb-true}
 use lib.Dec.{leb}
 use Rattle.roles.specs.Tests.{and-left, and-right}
 use Rattle.roles.specs.Rule.{Book}
-use Rattle.format.specs.Result.{Result, and-then}
+use Rattle.format.specs.Result.{Result, demand, and-then}
 use Rattle.format.specs.Result.Result.{refused, accepted}
 use Rattle.format.specs.ResultLaws.{refused-accepted, accepted-injective, demand-test, demand-rest}
+use Rattle.format.specs.ReadLaws.{read-few-names}
 use Rattle.causes.specs.Ordered
 use Rattle.causes.specs.Ordered.{ordered}
+use Rattle.causes.specs.GatherLaws.{ordered-read}
 use Rattle.causes.specs.Built.{states-of, count-of, fitting, built}
 
 module _ (s : List ℕ) (heads moves : ℕ) where
@@ -84,3 +87,26 @@ module _ (heads moves : ℕ) where
       by-result (accepted d) f g =
           let same : d ≡ b = fitted-same d b g in
           passed s b (f ∙ ap accepted same) (subst (λ (d : Book). fitting heads moves d ≡ accepted b) same g)
+
+-- no more than 64 heads and 15,360 moves are needed: tables lent so long serve as longer ones do
+module _ (heads moves heads′ moves′ : ℕ) (f : (n : ℕ) → n ≤ 64 → leb n heads ≡ leb n heads′)
+    (g : (n : ℕ) → n ≤ 15360 → leb n moves ≡ leb n moves′) where
+  fitting-enough : (b : Book) → b .names ≤ 64 → fitting heads moves b ≡ fitting heads′ moves′ b
+  unfolding fitting
+  fitting-enough b few = ap (demand (leb (states-of b) 2048) 9 0) (by-count (leb (count-of b) 5120) refl)
+    where
+      by-count : (t : Bool) → leb (count-of b) 5120 ≡ t
+          → demand t 10 0 (demand (leb (b .names) heads && leb (3 * count-of b) moves) 11 0 (accepted b))
+          ≡ demand t 10 0 (demand (leb (b .names) heads′ && leb (3 * count-of b) moves′) 11 0 (accepted b))
+      by-count false e = refl
+      by-count true e =
+          let l : count-of b ≤ 5120 = leb-true (count-of b) 5120 e in
+          rw (f (b .names) few, g (3 * count-of b) (omega arith)) refl
+
+  pub built-enough : (s : List ℕ) → built s heads moves ≡ built s heads′ moves′
+  unfolding built
+  built-enough s = by-result (ordered s) refl
+    where
+      by-result : (r : Result Book) → ordered s ≡ r → and-then r (fitting heads moves) ≡ and-then r (fitting heads′ moves′)
+      by-result (refused c v) e = refl
+      by-result (accepted b) e = fitting-enough b (read-few-names s b (ordered-read s b e))

@@ -7,8 +7,8 @@ use lib.ListN.{length}
 use Rattle.roles.specs.Role.{Chain}
 use Rattle.format.specs.Result.{Result}
 use Rattle.format.specs.Result.Result.{refused, accepted}
-use Rattle.causes.specs.Built.{heads-of, moves-of, built, written}
-use Rattle.answers.specs.Reply.{Replied}
+use Rattle.causes.specs.Built.{heads-of, moves-of, written}
+use Rattle.answers.specs.Reply.{Replied, posed}
 use Rattle.refusals.specs.Refusal.{cause-of, value-of}
 use Rattle.questions.specs.Question.{cause-of as question-cause-of}
 use Rattle.deriver.specs.declared.Reply.{Reply}
@@ -21,8 +21,8 @@ says No = accepted false
 says (Book refusal) = refused (cause-of refusal) (value-of refusal)
 says (Question refusal) = refused (question-cause-of refusal) 0
 
--- demand 3, and what the lent tables then hold
+-- demand 3, and what the lent tables then hold: those of the book that the question is put to, and where it or the book is refused, what they held
 pub record Replies (s h m : List ℕ) (r : ℕ) (w : Chain) (h′ m′ : List ℕ) (a : Reply) : Type 0 where
   pub answer : Replied s (length h) (length m) r w (says a)
-  pub heads : h′ ≡ written (built s (length h) (length m)) heads-of h
-  pub moves : m′ ≡ written (built s (length h) (length m)) moves-of m
+  pub heads : h′ ≡ written (posed s (length h) (length m) r w) heads-of h
+  pub moves : m′ ≡ written (posed s (length h) (length m) r w) moves-of m

@@ -1,7 +1,6 @@
 // Causes 12 to 14 of document 01: what a question must be.
 ghost use mathlib.Core.List.{_∷_};
 ghost use mathlib.Core.Path.{_≡_};
-ghost use Prim.Native.Nat.{_≤_};
 ghost use Rattle.format.specs.Format.{named};
 ghost use Rattle.queries.specs.Query.{transitions-in, heads-fit, transitions-fit, tables-fit, chain-fits};
 ghost use Rattle.refusals.specs.Check.{check};
@@ -80,16 +79,16 @@ pub(crate) fn chain_fits(chain: &[u8]) -> Check
 }
 
 // Cause 14: the role and each link of the chain have a name below `names`.
-pub(crate) fn roles_fit(names: usize, role: u8, chain: &[u8]) -> Check
-    requires { ⌜ names ≤ 64 ⌝ }
+pub(crate) fn roles_fit(names: u8, role: u8, chain: &[u8]) -> Check
     ensures { λ r. ⌜ r ≡ check (named names (role ∷ now (chain .entry))) ⌝ }
 {
-    if 2 * names <= role as usize {
+    let end = 2 * names as usize;
+    if end <= role as usize {
         return Check::Failed;
     }
     let mut i = 0;
     while i < chain.len() {
-        if 2 * names <= chain[i] as usize {
+        if end <= chain[i] as usize {
             return Check::Failed;
         }
         i += 1;

@@ -1,6 +1,6 @@
-// Checks a question put to tables: the first cause of document 01, 12 to 14, that refuses it.
+// Checks a question, put to tables or for so many names: the first cause of document 01, 12 to 14, that refuses it.
 ghost use mathlib.Core.Path.{_≡_};
-ghost use Rattle.queries.specs.Query.{query};
+ghost use Rattle.queries.specs.Query.{question, query};
 ghost use Rattle.questions.specs.Question.{says};
 
 mod checks;
@@ -28,10 +28,17 @@ pub fn check(heads: &[u16], moves: &[u16], role: u8, chain: &[u8]) -> Question
     let Check::Passed = tables_fit(heads, moves) else {
         return Question::Refused(QueryRefusal::Tables);
     };
+    check_for(heads.len() as u8, role, chain)
+}
+
+// Causes 13 and 14, in this order, for so many names.
+pub fn check_for(names: u8, role: u8, chain: &[u8]) -> Question
+    ensures { λ r. ⌜ says r ≡ question names role (now (chain .entry)) ⌝ }
+{
     let Check::Passed = chain_fits(chain) else {
         return Question::Refused(QueryRefusal::Chain);
     };
-    let Check::Passed = roles_fit(heads.len(), role, chain) else {
+    let Check::Passed = roles_fit(names, role, chain) else {
         return Question::Refused(QueryRefusal::Role);
     };
     Question::Fits

@@ -10,7 +10,7 @@ use Rattle.format.specs.Result.{Result, map-result}
 use Rattle.format.specs.Result.Result.{refused, accepted}
 use Rattle.causes.specs.Built.{states-of, count-of, heads-of, moves-of, built, written}
 use Rattle.queries.specs.Query.{Answered}
-use Rattle.answers.specs.Reply.{Replied}
+use Rattle.answers.specs.Reply.{Replied, posed}
 use Rattle.decoder.specs.declared.verdict.Header.{Header}
 
 -- two numbers told
@@ -64,10 +64,10 @@ pub record Asks (h m : List ℕ) (r : ℕ) (w : Chain) (cause answer : ℕ) : Ty
   pub answered : Answered h m r w said
   pub tells : Tells (map-result bit said) cause answer 0
 
--- the answer from a book's bytes, and the lent tables
+-- the answer from a book's bytes, and the lent tables: where the book or the question is refused, what they held
 pub record Derives (s h m : List ℕ) (r : ℕ) (w : Chain) (h′ m′ : List ℕ) (cause answer : ℕ) : Type 0 where
   pub said : Result Bool
   pub replied : Replied s (length h) (length m) r w said
   pub tells : Tells (map-result bit said) cause answer 0
-  pub heads : h′ ≡ written (built s (length h) (length m)) heads-of h
-  pub moves : m′ ≡ written (built s (length h) (length m)) moves-of m
+  pub heads : h′ ≡ written (posed s (length h) (length m) r w) heads-of h
+  pub moves : m′ ≡ written (posed s (length h) (length m) r w) moves-of m

@@ -13,29 +13,31 @@ use Rattle.format.specs.NamedLaws.{named-all, named-link}
 use borrow.Author.Tests.{leb-true}
 use lib.Dec.{leb}
 use Rattle.roles.specs.Tests.{and-right}
-use Rattle.queries.specs.Query.{tables-fit, chain-fits, query}
+use Rattle.queries.specs.Query.{tables-fit, chain-fits, question, query}
 use Rattle.simulation.specs.Reading.{Letters}
 use Rattle.simulation.specs.TablesLaws.{Tables, tables}
 
--- the first refusal met
+-- the first refusal met, for so many names
+module _ (n r : ℕ) (w : Chain) where
+  pub question-chain : chain-fits w ≡ false → question n r w ≡ refused 13 0
+  question-chain h = rw h refl
+
+  module _ (sized : chain-fits w ≡ true) where
+    pub question-role : named n (r ∷ w) ≡ false → question n r w ≡ refused 14 0
+    question-role h = rw (sized, h) refl
+
+    pub question-accepted : named n (r ∷ w) ≡ true → question n r w ≡ accepted tt
+    question-accepted h = rw (sized, h) refl
+
+-- the first refusal met, put to tables
 module _ (heads moves : List ℕ) (r : ℕ) (w : Chain) where
   pub query-tables : tables-fit heads moves ≡ false → query heads moves r w ≡ refused 12 0
   unfolding query
   query-tables h = rw h refl
 
-  module _ (fit : tables-fit heads moves ≡ true) where
-    pub query-chain : chain-fits w ≡ false → query heads moves r w ≡ refused 13 0
-    unfolding query
-    query-chain h = rw (fit, h) refl
-
-    module _ (sized : chain-fits w ≡ true) where
-      pub query-role : named (length heads) (r ∷ w) ≡ false → query heads moves r w ≡ refused 14 0
-      unfolding query
-      query-role h = rw (fit, sized, h) refl
-
-      pub query-accepted : named (length heads) (r ∷ w) ≡ true → query heads moves r w ≡ accepted tt
-      unfolding query
-      query-accepted h = rw (fit, sized, h) refl
+  pub query-question : tables-fit heads moves ≡ true → query heads moves r w ≡ question (length heads) r w
+  unfolding query
+  query-question h = rw h refl
 
   -- what a question that is not refused has passed
   module _ (passed : query heads moves r w ≡ accepted tt) where

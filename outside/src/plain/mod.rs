@@ -21,6 +21,8 @@ pub use refusal::{Cause, Refusal};
 pub use tables::build;
 
 use book::Book;
+use query::check_chain;
+use tables::Plan;
 
 /// The names and the rule count of a well-formed book, or the refusal (causes 1 to 7).
 pub fn read(book: &[u8]) -> Result<(u64, u64), Refusal> {
@@ -35,8 +37,8 @@ pub fn order(book: &[u8]) -> Result<(u64, u64), Refusal> {
     Ok((book.names() as u64, book.rules() as u64))
 }
 
-/// Builds the tables of a book into the lent slices, then asks them: causes 1 to 11, then 12 to 14.
-/// The lent slices are left as [`build`] leaves them, whatever becomes of the question.
+/// Builds the tables of a book into the lent slices and asks them: causes 1 to 11, then 13 and 14, each of which leaves
+/// the slices as they were.
 pub fn derived(
     book: &[u8],
     heads: &mut [u16],
@@ -44,11 +46,12 @@ pub fn derived(
     role: u8,
     chain: &[u8],
 ) -> Result<bool, Refusal> {
-    let (_, transitions) = build(book, heads, moves)?;
-    let names = usize::from(book[book::NAMES]);
+    let plan = Plan::of(book, heads.len(), moves.len())?;
+    check_chain(plan.names(), role, chain)?;
+    plan.write(heads, moves);
     ask(
-        &heads[..names],
-        &moves[..3 * transitions as usize],
+        &heads[..plan.names()],
+        &moves[..plan.numbers()],
         role,
         chain,
     )

@@ -12,7 +12,7 @@ pub fn ask(heads: &[u16], moves: &[u16], role: u8, chain: &[u8]) -> Result<bool,
     const FEW_STATES: usize = 64;
     const FEW_TRANSITIONS: usize = 192;
     let (transitions, states) = check_tables(heads, moves)?;
-    check_chain(heads, role, chain)?;
+    check_chain(heads.len(), role, chain)?;
     let head = heads[usize::from(role >> 1)];
     let answer = if states <= FEW_STATES && transitions.len() <= FEW_TRANSITIONS {
         let index = Index::<FEW_STATES, FEW_TRANSITIONS>::new(transitions);
@@ -46,7 +46,7 @@ impl<'a> Indexed<'a> {
 
     /// Answers as [`ask`] does.
     pub fn ask(&mut self, role: u8, chain: &[u8]) -> Result<bool, Refusal> {
-        check_chain(self.heads, role, chain)?;
+        check_chain(self.heads.len(), role, chain)?;
         let head = self.heads[usize::from(role >> 1)];
         Ok(self
             .active
@@ -77,12 +77,12 @@ fn check_tables<'a>(heads: &[u16], moves: &'a [u16]) -> Result<(&'a [[u16; 3]], 
     Ok((transitions, states))
 }
 
-/// Causes 13 and 14.
-fn check_chain(heads: &[u16], role: u8, chain: &[u8]) -> Result<(), Refusal> {
+/// Causes 13 and 14, for so many names.
+pub fn check_chain(names: usize, role: u8, chain: &[u8]) -> Result<(), Refusal> {
     if chain.is_empty() || chain.len() > MAX_LINKS {
         return Err(Cause::ChainLength.into());
     }
-    let unknown = |role: u8| usize::from(role) >= 2 * heads.len();
+    let unknown = |role: u8| usize::from(role) >= 2 * names;
     if unknown(role) || chain.iter().any(|&link| unknown(link)) {
         return Err(Cause::QueryRole.into());
     }

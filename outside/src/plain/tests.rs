@@ -416,10 +416,14 @@ fn lent_tables() {
             }
         }
     }
-    // A refused question leaves the tables as the build left them.
+    // A refused question leaves the lent slices as they were, and the book is refused before it.
     let (mut heads, mut moves) = ([9; 5], [9; 60]);
     let refusal = derived(HALL, &mut heads, &mut moves, DUE, &[]).unwrap_err();
     assert_eq!(refusal, Cause::ChainLength.into());
+    assert_eq!((heads, moves), ([9; 5], [9; 60]));
+    let refusal = derived(HALL, &mut heads[..3], &mut moves, DUE, &[]).unwrap_err();
+    assert_eq!(refusal, Cause::ShortTables.into());
+    assert_eq!(derived(HALL, &mut heads, &mut moves, DUE, &[DUE]), Ok(true));
     assert_eq!(heads, [0, 2, 6, 8, 9]);
     assert_eq!(moves[51..], [15, 128, 9, 9, 9, 9, 9, 9, 9]);
 }

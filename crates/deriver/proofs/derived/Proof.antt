@@ -1,25 +1,30 @@
--- `derived` meets its contract: the tables of an accepted book are built and asked, and their answer is that of derivation.
-use native.Mathlib.Omega.{arith}
+-- `derived` meets its contract: the question is judged by the names that the book says it has, before anything is written.
 use borrow.Author.Needs.{needs}
-use Rattle.builder.specs.WrittenLaws.{few-numbers, names-lent, numbers-lent}
-use Rattle.deriver.specs.RepliesLaws.{replies-settled, replies-refused}
+use Rattle.questions.specs.declared.Question.the-variants.{Fits, Refused}
+use Rattle.deriver.specs.RepliesLaws.{found, replies-kept}
 use Rattle.deriver.proofs.derived.Statement.{statement}
 use Rattle.deriver.proofs.derived.Tie as tie
 
-build-requires : tie.Need-build-requires
-build-requires c κs = search needs
+names-of-requires : tie.Need-names-of-requires
+names-of-requires c κs = search needs
 
-enum-known-outcome : tie.Need-enum-known-outcome
-enum-known-outcome c = search needs
+check-for-requires : tie.Need-check-for-requires
+check-for-requires c κs = search needs
 
-enum-known-outcome-2 : tie.Need-enum-known-outcome-2
-enum-known-outcome-2 c = search needs
+enum-known-question : tie.Need-enum-known-question
+enum-known-question c = search needs
 
-mul-numbers : tie.Need-mul-numbers
-mul-numbers c = omega (arith, few-numbers _ _ _ _ _ _ (rw (c .before .before .outcome2 .given .1) at (c .before .before .before .before .before .before .before .before .build .ensures)))
+refuse-requires : tie.Need-refuse-requires
+refuse-requires c κs = search needs
 
-put-requires : tie.Need-put-requires
-put-requires c κs = let p = rw (c .before .before .before .before .outcome2 .given .1) at (c .before .before .before .before .before .before .before .before .before .before .build .ensures) in (names-lent _ _ _ _ _ _ p, numbers-lent _ _ _ _ _ _ p)
+enum-told : tie.Need-enum-told
+enum-told c = search needs
+
+decide-requires : tie.Need-decide-requires
+decide-requires c κs = found (c .before .before .before .before .before .before .before .before .before .before .args .book .now) (c .before .before .before .before .before .names-of .result) (c .before .before .before .before .before .before .before .before .before .before .args .role) (c .before .before .before .before .before .before .before .before .before .before .args .chain .now) (c .before .before .before .before .before .names-of .ensures) (c .before .before .before .before .check-for .result) Fits (c .before .before .before .before .check-for .ensures) (c .before .before .enum-told .given .1)
+
+returns : tie.Need-returns
+returns c = replies-kept (c .before .before .before .before .before .before .before .before .before .before .args .book .now) _ _ (c .before .before .before .before .before .before .before .before .before .before .args .role) (c .before .before .before .before .before .before .before .before .before .before .args .chain .now) _ _ (found (c .before .before .before .before .before .before .before .before .before .before .args .book .now) (c .before .before .before .before .before .names-of .result) (c .before .before .before .before .before .before .before .before .before .before .args .role) (c .before .before .before .before .before .before .before .before .before .before .args .chain .now) (c .before .before .before .before .before .names-of .ensures) (c .before .before .before .before .check-for .result) (Refused (c .before .before .question .given .0 .0)) (c .before .before .before .before .check-for .ensures) (c .before .before .question .given .1)) _ (c .refuse .ensures)
 
 same-length : tie.Need-same-length
 same-length c = search needs
@@ -27,30 +32,20 @@ same-length c = search needs
 same-length-2 : tie.Need-same-length-2
 same-length-2 c = search needs
 
-returns : tie.Need-returns
-returns c = replies-refused _ _ _ _ _ _ (rw (c .before .outcome .given .1) at (c .before .before .before .before .before .before .before .build .ensures)) _ _
-
-same-length-3 : tie.Need-same-length-3
-same-length-3 c = search needs
-
-same-length-4 : tie.Need-same-length-4
-same-length-4 c = search needs
-
 returns-2 : tie.Need-returns-2
-returns-2 c = replies-settled _ _ _ _ _ _ (rw (c .before .before .before .before .before .outcome2 .given .1) at (c .before .before .before .before .before .before .before .before .before .before .before .build .ensures)) _ _ _ (c .put .ensures)
+returns-2 c = search needs
 
 pub derived-spec : {M : Type 1} → statement M
 derived-spec =
     tie.close
     (tie.spec
-    build-requires
-    enum-known-outcome
-    enum-known-outcome-2
-    mul-numbers
-    put-requires
+    names-of-requires
+    check-for-requires
+    enum-known-question
+    refuse-requires
+    enum-told
+    decide-requires
+    returns
     same-length
     same-length-2
-    returns
-    same-length-3
-    same-length-4
     returns-2)

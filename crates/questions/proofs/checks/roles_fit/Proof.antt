@@ -1,7 +1,7 @@
 -- `roles_fit` meets its contract. The invariant: the links passed are below twice the names.
 use mathlib.Core.List.{_∷_}
 use mathlib.Core.Path.{ap, sym}
-use Prim.Native.Nat.{ℕ, suc, _≤_, _<_, _*_, _-_}
+use Prim.Native.Nat.{ℕ, suc, _≤_, _<_, _-_}
 use native.Mathlib.Omega.{arith}
 use borrow.Author.Count.{below-more}
 use borrow.Author.Needs.{needs}
@@ -13,22 +13,19 @@ use Rattle.questions.proofs.checks.roles_fit.Statement.{statement}
 use Rattle.questions.proofs.checks.roles_fit.Tie as tie
 
 abbrev Inv-loop : tie.InvT-loop
-Inv-loop names role chain i₀ i = (i ≤ length chain) × ((k : ℕ) → k < i → getD chain k 0 < 2 * names)
+Inv-loop names role chain end i₀ i = (i ≤ length chain) × ((k : ℕ) → k < i → getD chain k 0 < end)
 
 abbrev μ-loop : tie.MeasureT-loop
-μ-loop names role chain i₀ i = length chain - i
+μ-loop names role chain end i₀ i = length chain - i
 
-mul-if1 : tie.Need-mul-if1 Inv-loop μ-loop
-mul-if1 c = search needs
+mul-end : tie.Need-mul-end Inv-loop μ-loop
+mul-end c = search needs
 
 returns : tie.Need-returns Inv-loop μ-loop
 returns c = ap check (sym (named-not _ (c .before .args .role ∷ c .before .args .chain .now) 0 (omega arith) (c .if1 .taken)))
 
 loop-holds : tie.Need-loop-holds Inv-loop μ-loop
 loop-holds c = search needs
-
-mul-if2 : tie.Need-mul-if2 Inv-loop μ-loop
-mul-if2 c = search needs
 
 shared-slice-read-if2 : tie.Need-shared-slice-read-if2 Inv-loop μ-loop
 shared-slice-read-if2 c = search needs
@@ -57,10 +54,9 @@ roles-fit-spec =
     (tie.spec
     Inv-loop
     μ-loop
-    mul-if1
+    mul-end
     returns
     loop-holds
-    mul-if2
     shared-slice-read-if2
     cast-if2
     returns-2
