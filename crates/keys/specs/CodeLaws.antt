@@ -8,9 +8,9 @@ use native.Mathlib.Numerals.{add-one}
 use native.Mathlib.Omega.{arith}
 use lib.ListN.{length, getD, take, drop, length-take, length-drop}
 use lib.Seq.{drop-cons, take-suc, getD-take, getD-drop}
-use Rattle.roles.specs.Role.{Chain, inv, inv-chain}
-use Rattle.roles.specs.RoleLaws.{inv-below, length-inv-chain, getD-inv-chain, inv-chain-append, inv-chain-one}
-use Rattle.keys.specs.Key.{code, turn, Small}
+use Rattle.roles.specs.Role.{Chain, inv, inv-chain, turn}
+use Rattle.roles.specs.RoleLaws.{length-inv-chain, length-turn, turn-below, inv-chain-append, inv-chain-one}
+use Rattle.keys.specs.Key.{code, Small}
 
 -- the code of a chain is at least 1, below twice 128 to the chain's length, and no other chain's
 code-some : (w : Chain) → 1 ≤ code w
@@ -41,19 +41,9 @@ code-injective (r ∷ w) (s ∷ v) g h e =
     let q : s < 128 = h 0 (omega arith) in
     ap₂ _∷_ (omega arith) (code-injective w v (small-rest r w g) (small-rest s v h) (omega arith))
 
--- the inverse of a chain is as small and as long as the chain
-small-inverse : (w : Chain) → Small w → Small (inv-chain w)
-small-inverse w h k p =
-    let q : k < length w = rw (← length-inv-chain w) p in
-    rw (getD-inv-chain w k q) (inv-below _ 64 (h (length w - 1 - k) (omega arith)))
-
+-- a turned chain is as small
 pub turn-small : (t : Bool) (w : Chain) → Small w → Small (turn t w)
-turn-small true w h = small-inverse w h
-turn-small false w h = h
-
-length-turn : (t : Bool) (w : Chain) → length (turn t w) ≡ length w
-length-turn true w = length-inv-chain w
-length-turn false w = refl
+turn-small t w h k p = turn-below 64 t w h k (rw (← length-turn t w) p)
 
 -- a chain w of at most 8 roles
 module _ (w : Chain) (small : Small w) (few : length w ≤ 8) where
@@ -78,7 +68,7 @@ module _ (w : Chain) (small : Small w) (few : length w ≤ 8) where
     pub inverse-front : code (inv-chain (take i w)) < 2 ^ 50
     inverse-front =
         code-few (inv-chain (take i w)) 7
-        (small-inverse (take i w) (λ k p. rw (getD-take i w k 0 (omega (arith, length-take i w))) (small k (omega (arith, length-take i w)))))
+        (turn-small true (take i w) (λ k p. rw (getD-take i w k 0 (omega (arith, length-take i w))) (small k (omega (arith, length-take i w)))))
         (rw (length-inv-chain, length-take) (omega arith))
 
     pub inverse-next : code (inv-chain (take (i + 1) w)) ≡ 128 * code (inv-chain (take i w)) + inv (getD w i 0)

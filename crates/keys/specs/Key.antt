@@ -1,21 +1,15 @@
 -- A number for each rule, which it shares with its inverse alone. Of a rule and its inverse it codes the one with a name on the right.
-use mathlib.Core.Bool.{Bool, true, false}
 use mathlib.Core.List.{[], _∷_}
 use Prim.Native.Nat.{ℕ, _+_, _*_, _<_, _≤_}
 use lib.Dec.{eqb}
 use lib.ListN.{length, getD}
-use Rattle.roles.specs.Role.{Chain, name, polarity, inv-chain}
+use Rattle.roles.specs.Role.{Chain, name, polarity, turn}
 use Rattle.roles.specs.Rule.{Rule}
 
 -- 7 bits for each role, the first role lowest, under a leading 1
 unfoldable pub code : Chain → ℕ
 code [] = 1
 code (r ∷ w) = 128 * code w + r
-
--- the inverse of the chain, or the chain itself
-abbrev pub turn : Bool → Chain → Chain
-turn true w = inv-chain w
-turn false w = w
 
 -- the left side of the rule or of its inverse, whichever has a name on the right
 unfoldable pub canonical : Rule → Chain

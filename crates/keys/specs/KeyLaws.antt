@@ -7,11 +7,11 @@ use native.Mathlib.Omega.{arith}
 use borrow.Author.Tests.{eqb-true, eqb-false, eq-eqb, ne-eqb}
 use lib.Dec.{eqb}
 use Rattle.roles.specs.Tests.{or-cases, or-left, or-right}
-use Rattle.roles.specs.Role.{Chain, name, polarity, inv, inv-chain}
+use Rattle.roles.specs.Role.{Chain, name, polarity, inv, inv-chain, turn}
 use Rattle.roles.specs.RoleLaws.{name-inv, same-name, inv-chain-inv-chain}
 use Rattle.roles.specs.Rule.{Rule, inverse, same-rule}
 use Rattle.roles.specs.RuleLaws.{rule-path, same-rule-sound, same-rule-complete}
-use Rattle.keys.specs.Key.{turn, canonical, key, Small, Short}
+use Rattle.keys.specs.Key.{canonical, key, Small, Short}
 use Rattle.keys.specs.CodeLaws.{turn-small, code-turn, code-injective}
 
 -- the canonical left side is the same for the inverse, and with the right role it tells the left side

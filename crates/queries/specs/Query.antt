@@ -1,12 +1,12 @@
 -- A question put to tables (document 01, "Tables", last paragraph): causes 12 to 14, and the answer. The tables are any numbers; a book
 -- need not have given them.
-use mathlib.Core.Bool.{Bool, true, false, cond, _&&_}
+use mathlib.Core.Bool.{Bool, true, false, _&&_}
 use mathlib.Core.List.{List, [], _∷_}
 use mathlib.Core.Path.{_≡_}
 use Prim.Native.Nat.{ℕ, _+_, _%_}
 use lib.Dec.{leb, eqb}
 use lib.ListN.{length, getD}
-use Rattle.roles.specs.Role.{Chain, name, polarity, inv-chain}
+use Rattle.roles.specs.Role.{Chain, name, polarity, turn}
 use Rattle.tables.specs.Tables.{Transition}
 use Rattle.tables.specs.Path.{Path}
 use Rattle.format.specs.Result.{Result, demand}
@@ -50,7 +50,7 @@ query heads moves r w = demand (tables-fit heads moves) 12 0 (question (length h
 
 -- a question about the inverse of a name asks the name with the inverse of the chain
 unfoldable pub asked : ℕ → Chain → Chain
-asked r w = cond (eqb (polarity r) 1) (inv-chain w) w
+asked r w = turn (eqb (polarity r) 1) w
 
 -- some path from the name's initial state to the next state, its final one, spells the chain
 abbrev pub Accepts : (heads moves : List ℕ) → ℕ → Chain → Type 0

@@ -6,7 +6,7 @@ use Prim.Native.Nat.{ℕ, suc, _+_, _-_, _*_, _<_, _≤_}
 use native.Mathlib.Omega.{arith}
 use lib.Dec.{eqb}
 use lib.ListN.{length, getD, take, drop}
-use Rattle.roles.specs.Role.{Chain, name, polarity}
+use Rattle.roles.specs.Role.{Chain, name, polarity, turn}
 use Rattle.roles.specs.PartLaws.{length-part}
 use Rattle.roles.specs.Rule.{Book}
 use Rattle.format.specs.Result.{Result, map-result}
@@ -16,7 +16,7 @@ use Rattle.format.specs.Place.{size-at, rule-at, whole-at, rule-place}
 use Rattle.format.specs.FormatLaws.{Whole, whole-facts}
 use Rattle.format.specs.DecodeLaws.{Decoded, decoded}
 use Rattle.format.specs.NamedLaws.{named-link}
-use Rattle.keys.specs.Key.{code, turn, canonical, key, Small, Short}
+use Rattle.keys.specs.Key.{code, canonical, key, Small, Short}
 use Rattle.cursor.specs.declared.Entry.{Entry}
 use Rattle.cursor.specs.Cursor.{entry-rule}
 use Rattle.cursor.specs.CursorLaws.{entry-part}

@@ -24,6 +24,11 @@ Chain = List ℕ
 unfoldable pub inv-chain : Chain → Chain
 inv-chain w = reverse (map inv w)
 
+-- the inverse of a chain, or the chain itself
+abbrev pub turn : Bool → Chain → Chain
+turn true w = inv-chain w
+turn false w = w
+
 -- whether two chains are equal
 unfoldable pub same-chain : Chain → Chain → Bool
 same-chain [] [] = true

@@ -11,7 +11,7 @@ use lib.Seq.{getD-append-add}
 use mathlib.Core.Logic.{_⊎_, inl, inr}
 use native.Mathlib.Nat.{not-suc-le-zero}
 use Rattle.roles.specs.Tests.{and-left, and-right, not-true-false, lt-or-le, eq-or-ne}
-use Rattle.roles.specs.Role.{Chain, name, polarity, inv, inv-chain, same-chain}
+use Rattle.roles.specs.Role.{Chain, name, polarity, inv, inv-chain, turn, same-chain}
 
 pub inv-inv : (r : ℕ) → inv (inv r) ≡ r
 unfolding inv
@@ -51,6 +51,10 @@ pub length-inv-chain : (w : Chain) → length (inv-chain w) ≡ length w
 unfolding inv-chain
 length-inv-chain w = length-reverse (map inv w) ∙ length-map w inv
 
+pub length-turn : (t : Bool) (w : Chain) → length (turn t w) ≡ length w
+length-turn true w = length-inv-chain w
+length-turn false w = refl
+
 pub inv-chain-append : (w v : Chain) → inv-chain (w ++ v) ≡ inv-chain v ++ inv-chain w
 inv-chain-append [] v = rw inv-chain-nil (sym (append-nil (inv-chain v)))
 inv-chain-append (r ∷ w) v =
@@ -78,6 +82,12 @@ getD-inv-chain (r ∷ w) i h = rw inv-chain-cons (by-place (λ (k : i < length w
         let e : suc (length w) - 1 - i ≡ 0 = omega arith in
         let f : i ≡ length (inv-chain w) + 0 = rw length-inv-chain (omega arith) in
         rw (e, f, getD-append-add (inv-chain w) (inv r ∷ []) 0 0) refl
+
+-- a turned chain has roles over the same names
+pub turn-below : (n : ℕ) (t : Bool) (w : Chain) → ((k : ℕ) → k < length w → getD w k 0 < 2 * n)
+    → (k : ℕ) → k < length w → getD (turn t w) k 0 < 2 * n
+turn-below n true w h k l = rw (getD-inv-chain w k l) (inv-below (getD w (length w - 1 - k) 0) n (h (length w - 1 - k) (omega arith)))
+turn-below n false w h k l = h k l
 
 pub same-chain-refl : (w : Chain) → same-chain w w ≡ true
 unfolding same-chain

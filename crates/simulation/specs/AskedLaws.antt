@@ -1,15 +1,13 @@
 -- The chain that is asked, link by link: the chain itself or its inverse, and what is read of it.
-use mathlib.Core.Bool.{Bool, true, false, cond}
+use mathlib.Core.Bool.{Bool, true, false}
 use mathlib.Core.List.{List}
-use mathlib.Core.Logic.{_⊎_, inl, inr}
 use mathlib.Core.Path.{_≡_, refl, sym}
 use Prim.Native.Nat.{ℕ, _+_, _-_, _<_}
 use native.Mathlib.Omega.{arith}
 use lib.Dec.{eqb}
 use lib.ListN.{length, getD}
-use Rattle.roles.specs.Tests.{true-or-false}
-use Rattle.roles.specs.Role.{Chain, polarity, inv, inv-chain}
-use Rattle.roles.specs.RoleLaws.{getD-inv-chain, length-inv-chain, inv-below}
+use Rattle.roles.specs.Role.{Chain, polarity, inv}
+use Rattle.roles.specs.RoleLaws.{getD-inv-chain, length-turn, turn-below}
 use Rattle.queries.specs.Query.{asked}
 use Rattle.simulation.specs.Decides.{Decides}
 use Rattle.simulation.specs.States.{Member}
@@ -19,11 +17,7 @@ use Rattle.simulation.specs.ReadingLaws.{read-more, read-decides}
 module _ (r : ℕ) (w : Chain) where
   length-asked : length (asked r w) ≡ length w
   unfolding asked
-  length-asked = by-test (eqb (polarity r) 1)
-    where
-      by-test : (t : Bool) → length (cond t (inv-chain w) w) ≡ length w
-      by-test true = length-inv-chain w
-      by-test false = refl
+  length-asked = length-turn (eqb (polarity r) 1) w
 
   module _ (i : ℕ) (l : i < length w) where
     pub asked-name : eqb (polarity r) 1 ≡ false → getD w i 0 ≡ getD (asked r w) i 0
@@ -36,11 +30,8 @@ module _ (r : ℕ) (w : Chain) where
 
     -- its links are letters
     pub asked-letter : ((k : ℕ) → k < length w → getD w k 0 < 128) → (a : ℕ) → a ≡ getD (asked r w) i 0 → a < 128
-    asked-letter h a e = rw e (by-test (true-or-false (eqb (polarity r) 1)))
-      where
-        by-test : (eqb (polarity r) 1 ≡ true) ⊎ (eqb (polarity r) 1 ≡ false) → getD (asked r w) i 0 < 128
-        by-test (inl t) = rw (← asked-inverse t) (inv-below (getD w (length w - 1 - i) 0) 64 (h (length w - 1 - i) (omega arith)))
-        by-test (inr t) = rw (← asked-name t) (h i l)
+    unfolding asked
+    asked-letter h a e = rw e (turn-below 64 (eqb (polarity r) 1) w h i l)
 
     -- one more link is read
     pub read-link : (moves : List ℕ) (room old stamp p : ℕ) (s : List ℕ) (count : ℕ) (t : List ℕ) (more a : ℕ) → Read moves room old p (asked r w) i s count
