@@ -2,3 +2,4 @@ pub mod Lines
 pub mod LinesLaws
 pub mod Transcript
 pub mod TranscriptLaws
+pub mod OneTranscript
