@@ -1,15 +1,14 @@
 // Tries the builder on the hall book of document 01, on books without an order and on every edge of causes 9 to 11. Each line names the book
 // and says what the builder answers; `stdout` holds what it must write.
 mod print;
-mod text;
 mod tower;
 
 use print::built;
 use print::line;
 use print::numbers;
-use text::byte;
-use text::find;
-use text::part;
+use texts::byte;
+use texts::find;
+use texts::part;
 use tower::tower;
 
 // A title, or after its text how many heads and moves are lent, 255 for 15,360 moves, and the book: its bytes, or T for a tower with its numbers of

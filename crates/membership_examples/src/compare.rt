@@ -4,8 +4,8 @@ use crate::counts::DERIVED;
 use crate::rules::Rules;
 use crate::sample::Question;
 use crate::second::derives;
-use crate::text::part;
 use answerer::Answer;
+use texts::part;
 
 // Whether the two methods agree, and say yes where the chain was derived; and whether they say yes.
 pub(crate) struct Compared {

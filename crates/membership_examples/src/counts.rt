@@ -1,7 +1,7 @@
 // Counts of books and questions, and the lines that tell them.
 use crate::compare::Compared;
-use crate::text::byte;
-use crate::text::part;
+use texts::byte;
+use texts::part;
 
 // Kinds of chains: derived from the role, nearly derived, random, and every chain in turn.
 pub(crate) const DERIVED: usize = 0;

@@ -4,14 +4,14 @@ use crate::built::build;
 use crate::counts::tell;
 use crate::print::answer;
 use crate::print::line;
-use crate::text::byte;
-use crate::text::find;
 use crate::text::numbers_of;
-use crate::text::part;
 use crate::text::read_list;
 use crate::text::read_number;
 use crate::trial::try_book;
 use crate::trial::try_made;
+use texts::byte;
+use texts::find;
+use texts::part;
 
 // Tries a line; whether the two methods agree.
 pub(crate) fn try_line(s: &[u8]) -> bool {

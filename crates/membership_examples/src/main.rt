@@ -16,8 +16,8 @@ mod text;
 mod trial;
 
 use line::try_line;
-use text::find;
-use text::part;
+use texts::find;
+use texts::part;
 
 fn main() {
     let mut space = io::large_buffer();

@@ -2,7 +2,7 @@
 use crate::chain::Chain;
 use crate::chain::inverse;
 use crate::chain::push;
-use crate::text::byte;
+use texts::byte;
 
 // The numbers of a book's last name and last rule, and the bytes of each rule, packed like the links of a chain: right role, length, left roles.
 pub(crate) struct Rules {

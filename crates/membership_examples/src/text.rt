@@ -1,34 +1,5 @@
-// Parts of a text, and the numbers that are written in it. Every place is safe.
-
-// The byte at a place; 0 past the end.
-pub(crate) fn byte(s: &[u8], at: usize) -> u8 {
-    if at < s.len() {
-        return s[at];
-    }
-    0
-}
-
-// The bytes from a place to an end; none where the text has no such places.
-pub(crate) fn part(s: &[u8], from: usize, end: usize) -> &[u8] {
-    if end <= s.len() {
-        if from <= end {
-            return &s[from..end];
-        }
-    }
-    &s[0..0]
-}
-
-// The first place of a byte from a place on; the end where it does not stand there.
-pub(crate) fn find(s: &[u8], from: usize, wanted: u8) -> usize {
-    let mut i = from;
-    while i < s.len() {
-        if byte(s, i) == wanted {
-            return i;
-        }
-        i += 1;
-    }
-    i
-}
+// The numbers that are written in a text. Every place is safe.
+use texts::byte;
 
 // A number of up to five digits, the place after the byte that ends it, and whether that is a space: then another of its list follows.
 pub(crate) struct Number {

@@ -14,7 +14,7 @@ use crate::make::make_book;
 use crate::rules::rules_of;
 use crate::sample::nth_question;
 use crate::text::numbers_of;
-use crate::text::part;
+use texts::part;
 
 // How far it is: the next seed, the counts, and whether the two methods agreed.
 pub(crate) struct Trial {

@@ -1,0 +1,15 @@
+-- Parts of a text, and the bytes before a wanted one.
+use mathlib.Core.Bool.{cond, _&&_}
+use mathlib.Core.List.{List, [], _∷_}
+use Prim.Native.Nat.{ℕ, _-_, suc}
+use lib.Dec.{leb, eqb}
+use lib.ListN.{length, take, drop}
+
+-- the bytes from a place to an end; none where the text has no such places
+unfoldable pub between : (from end : ℕ) → List ℕ → List ℕ
+between from end s = cond (leb end (length s) && leb from end) (take (end - from) (drop from s)) []
+
+-- how many bytes stand before the first wanted one, or in all where there is none
+unfoldable pub ahead : ℕ → List ℕ → ℕ
+ahead wanted [] = 0
+ahead wanted (b ∷ s) = cond (eqb b wanted) 0 (suc (ahead wanted s))
