@@ -8,7 +8,7 @@ use native.Mathlib.Omega.{arith}
 use borrow.Author.Tests.{eq-eqb, ne-eqb}
 use lib.Bits.{bitOr}
 use lib.Dec.{eqb}
-use lib.ListN.{length, getD, set, replicate, length-set, length-replicate, getD-replicate}
+use lib.ListN.{length, getD, set, replicate, length-set, getD-replicate}
 use lib.Seq.{getD-set-same, getD-set-other}
 use Rattle.roles.specs.Tests.{or-left, or-right, eq-or-ne}
 use Rattle.roles.specs.Role.{Chain}
@@ -84,7 +84,6 @@ module _ (old : List ℕ) (right lower : ℕ) where
   unfolding with-inner
   absorbing-end new x p q a order inner h e =
       record {
-        size = a .size ∙ h .size;
         bits =
             λ z y k l.
             rw (a .past z (omega arith), has-grown z (getD old z 0) y, h .bits z y k l, h .bits z right k q, e y l) refl;
@@ -94,8 +93,8 @@ module _ (old : List ℕ) (right lower : ℕ) where
 pub holds-empty : (masks : List ℕ) (order : ℕ → ℕ → Bool) (right : ℕ) → Holds masks order → Holds masks (with-inner order right [])
 unfolding with-inner reaches
 holds-empty masks order right h =
-    record { size = h .size; bits = λ x y p q. h .bits x y p q ∙ sym (rw (and-false (eqb x right || order right x)) (or-false (order y x))) }
+    record { bits = λ x y p q. h .bits x y p q ∙ sym (rw (and-false (eqb x right || order right x)) (or-false (order y x))) }
 
 -- masks without a name hold no order
 pub holds-none : Holds (replicate 64 0) no-order
-holds-none = record { size = length-replicate {A = ℕ} 64 0; bits = λ x y p q. rw (getD-replicate {A = ℕ} 64 x 0 0 p) (has-zero y) }
+holds-none = record { bits = λ x y p q. rw (getD-replicate {A = ℕ} 64 x 0 0 p) (has-zero y) }

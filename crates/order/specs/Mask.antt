@@ -4,15 +4,14 @@ use mathlib.Core.List.{List}
 use mathlib.Core.Path.{_≡_}
 use Prim.Native.Nat.{ℕ, zero, suc, _+_, _/_, _%_, _^_, _<_}
 use lib.Dec.{eqb}
-use lib.ListN.{length, getD}
+use lib.ListN.{getD}
 
 -- whether bit y is set
 unfoldable pub has : ℕ → ℕ → Bool
 has m y = eqb (m / 2 ^ y % 2) 1
 
--- masks of 64 names that hold a relation: the names lower than x are the set of mask x
+-- masks that hold a relation on 64 names: the names lower than x are the set of mask x, and none where there is no mask x
 pub record Holds (masks : List ℕ) (lower : ℕ → ℕ → Bool) : Type 0 where
-  pub size : length masks ≡ 64
   pub bits : (x y : ℕ) → x < 64 → y < 64 → has (getD masks x 0) y ≡ lower y x
 
 abbrev pub bit : Bool → ℕ

@@ -98,7 +98,7 @@ module _ (ρ : Rule) (masks : List ℕ) where
           by-tests false false false false f g i j = refl
 
       still-holds : Holds masks (with-inner lower over inner)
-      still-holds = record { size = h .size; bits = λ x y p q. h .bits x y p q ∙ nothing-new x y q }
+      still-holds = record { bits = λ x y p q. h .bits x y p q ∙ nothing-new x y q }
 
     pub added-known : has mask over ≡ false → bitOr mask (getD masks over 0) ≡ getD masks over 0 → Added Calm masks
     added-known k known lower t h =

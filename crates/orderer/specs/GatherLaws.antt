@@ -14,7 +14,8 @@ use Rattle.format.specs.Result.Result.{refused, accepted}
 use Rattle.format.specs.ResultLaws.{refused-accepted, accepted-injective}
 use Rattle.format.specs.Format.{named, read}
 use Rattle.format.specs.Place.{rule-at, whole-at, rule-place}
-use Rattle.format.specs.ReadLaws.{read-whole, read-rule, read-named, read-some}
+use Rattle.format.specs.DecodeLaws.{decoded}
+use Rattle.format.specs.ReadLaws.{read-decode, read-whole, read-rule, read-some, read-few-names}
 use Rattle.causes.specs.Ordered.{ordered}
 use Rattle.causes.specs.GatherLaws.{Gathering, gathering-start, gathering-next, gathering-clash, gathering-end, gathering-closed, ordered-from, ordered-read}
 use Rattle.cursor.specs.declared.Cursor.{Cursor}
@@ -65,6 +66,12 @@ module _ (s : List ℕ) (h : Header) (pre : map-result header-of (read s) ≡ ac
   rules : (b : Book) → read s ≡ accepted b → length (b .rules) ≡ h .rules
   rules b i = ap (λ (x : Header). x .rules) (head b i)
 
+  names : (b : Book) → read s ≡ accepted b → b .names ≡ h .names
+  names b i = ap (λ (x : Header). x .names) (head b i)
+
+  pub few-names : h .names ≤ 64
+  few-names = rw (← names (some-book .0) (some-book .1)) (read-few-names s (some-book .0) (some-book .1))
+
   module _ (k : ℕ) (p : k < h .rules) where
     within : (b : Book) (i : read s ≡ accepted b) → k < length (b .rules)
     within b i = rw (rules b i) p
@@ -74,8 +81,12 @@ module _ (s : List ℕ) (h : Header) (pre : map-result header-of (read s) ≡ ac
 
     -- rule k, and what adding it answered and left
     module _ (ρ : Rule) (e : ρ ≡ rule-at s (rule-place s k)) where
-      pub named-rule : named 64 (ρ .right ∷ ρ .left) ≡ true
-      named-rule = read-named s (some-book .0) (some-book .1) k (within (some-book .0) (some-book .1)) ρ e
+      pub named-rule : named (h .names) (ρ .right ∷ ρ .left) ≡ true
+      named-rule =
+          let b = some-book .0 in
+          let i = some-book .1 in
+          let d = decoded s b (read-decode s b i) in
+          rw (e, ← names b i) (d .named k (rw (← d .count) (within b i)))
 
       module _ (masks new : List ℕ) (r : Gathered) (a : Added ρ masks r new) (g : Gathers s masks k) where
         pub gathers-next : r ≡ Calm → Gathers s new (k + 1)

@@ -2,7 +2,7 @@
 ghost use mathlib.Core.Bool.{Bool, true, false};
 ghost use mathlib.Core.List.{_∷_};
 ghost use mathlib.Core.Path.{_≡_};
-ghost use Prim.Native.Nat.{ℕ, _<_};
+ghost use Prim.Native.Nat.{ℕ, _<_, _≤_};
 ghost use lib.ListN.{length, getD, replicate};
 ghost use Rattle.roles.specs.Rule.{Book};
 ghost use Rattle.order.specs.Closure.{no-order, with-rule, clashes};
@@ -49,8 +49,9 @@ pub fn order(book: &[u8]) -> Ordering
             levels: [0u8; 64],
         };
     };
+    let names = header.names;
     let mut masks = [0u64; 64];
-    let gathered = gather(book, header, &mut masks);
+    let gathered = gather(book, header, &mut masks[..names]);
     let Verdict::WellFormed(_) = gathered else {
         return Ordering {
             verdict: gathered,
@@ -59,14 +60,15 @@ pub fn order(book: &[u8]) -> Ordering
     };
     Ordering {
         verdict: gathered,
-        levels: counted(&masks),
+        levels: counted(&masks[..names]),
     }
 }
 
-// Gathers the order that the rules force on the names: mask x holds the names lower than x. Refused at the first rule that would put its
-// right name below itself.
+// Gathers the order that the rules force on the names: mask x holds the names lower than x, with a mask for each name of the book. Refused at the
+// first rule that would put its right name below itself.
 fn gather(book: &[u8], header: Header, masks: &mut [u64]) -> Verdict
     requires { ⌜ map-result header-of (read-of (now book)) ≡ accepted header ⌝ }
+    requires { ⌜ length (now masks) ≡ header .names ⌝ }
     requires { ⌜ Holds (now masks) no-order ⌝ }
     ensures { λ r. ⌜ says r ≡ map-result header-of (ordered (now (book .entry))) ⌝ }
     ensures { λ r. ⌜ Gathered-order (now (book .entry)) (says r) (now (masks .exit)) ⌝ }
@@ -97,8 +99,8 @@ pub enum Gathered {
 
 // Adds what a rule forces, unless it would put its right name below itself.
 fn add_rule(left: &[u8], right: u8, masks: &mut [u64]) -> Gathered
-    requires { ⌜ named 64 (right ∷ now left) ≡ true ⌝ }
-    requires { ⌜ length (now masks) ≡ 64 ⌝ }
+    requires { ⌜ named (length (now masks)) (right ∷ now left) ≡ true ⌝ }
+    requires { ⌜ length (now masks) ≤ 64 ⌝ }
     ensures { λ r. ⌜ ((lower : ℕ → ℕ → Bool) → Transitive lower → Holds (now (masks .entry)) lower →
         (r ≡ gathered (clashes lower (record { left = now (left .entry); right = right })))
         × (clashes lower (record { left = now (left .entry); right = right }) ≡ false
@@ -122,14 +124,14 @@ fn add_rule(left: &[u8], right: u8, masks: &mut [u64]) -> Gathered
     Gathered::Calm
 }
 
-// How many names each name has below it.
+// How many names each name has below it; a name without a mask has none.
 fn counted(masks: &[u64]) -> [u8; 64]
-    requires { ⌜ length (now masks) ≡ 64 ⌝ }
+    requires { ⌜ length (now masks) ≤ 64 ⌝ }
     ensures { λ r. ⌜ (length r ≡ 64) × ((x : ℕ) → x < 64 → getD r x 0 ≡ count 64 (has-of (getD (now (masks .entry)) x 0))) ⌝ }
 {
     let mut levels = [0u8; 64];
     let mut x = 0;
-    while x < 64 {
+    while x < masks.len() {
         let mask = masks[x];
         if mask != 0 {
             levels[x] = u64::count_ones(mask) as u8;

@@ -2,7 +2,7 @@
 ghost use mathlib.Core.Bool.{Bool};
 ghost use mathlib.Core.List.{List};
 ghost use mathlib.Core.Path.{_≡_};
-ghost use Prim.Native.Nat.{ℕ, _^_, _<_};
+ghost use Prim.Native.Nat.{ℕ, _*_, _^_, _<_, _≤_};
 ghost use lib.ListN.{length, getD};
 ghost use Rattle.roles.specs.Role.{Chain};
 ghost use Rattle.order.specs.Closure.{reaches, with-inner};
@@ -28,8 +28,8 @@ fn single(x: usize) -> u64
 
 // The names of some roles, and all names lower than these.
 pub(crate) fn reached(roles: &[u8], masks: &[u64]) -> u64
-    requires { ⌜ ((k : ℕ) → k < length (now roles) → getD (now roles) k 0 < 128) ⌝ }
-    requires { ⌜ length (now masks) ≡ 64 ⌝ }
+    requires { ⌜ ((k : ℕ) → k < length (now roles) → getD (now roles) k 0 < 2 * length (now masks)) ⌝ }
+    requires { ⌜ length (now masks) ≤ 64 ⌝ }
     ensures { λ r. ⌜ ((lower : ℕ → ℕ → Bool) → Holds (now (masks .entry)) lower → (y : ℕ) → y < 64
         → has-of r y ≡ reaches lower (now (roles .entry)) y) ⌝ }
 {
@@ -45,13 +45,13 @@ pub(crate) fn reached(roles: &[u8], masks: &[u64]) -> u64
 
 // Puts a set of names below a name and below all names above it.
 pub(crate) fn absorb(masks: &mut [u64], right: usize, lower: u64)
-    requires { ⌜ right < 64 ⌝ }
-    requires { ⌜ length (now masks) ≡ 64 ⌝ }
+    requires { ⌜ right < length (now masks) ⌝ }
+    requires { ⌜ length (now masks) ≤ 64 ⌝ }
     ensures { λ _. ⌜ ((order : ℕ → ℕ → Bool) (inner : Chain) → Holds (now (masks .entry)) order
         → ((y : ℕ) → y < 64 → has-of lower y ≡ reaches order inner y) → Holds (now (masks .exit)) (with-inner order right inner)) ⌝ }
 {
     let mut x = 0;
-    while x < 64 {
+    while x < masks.len() {
         let mask = masks[x];
         if x == right {
             masks[x] = mask | lower;

@@ -3,6 +3,7 @@ use mathlib.Core.Logic.{⊎-elim}
 use mathlib.Core.Path.{sym, _∙_}
 use Prim.Native.Nat.{_<_, _+_, _-_}
 use native.Mathlib.Omega.{arith}
+use lib.ListN.{length}
 use Rattle.format.specs.ReadLaws.{named-name, named-part}
 use Rattle.orderer.specs.AddLaws.{no-inner, row-within, row-inner, added-none, added-clash, added-known, added-calm}
 use borrow.Author.Needs.{needs}
@@ -31,7 +32,7 @@ part-reached-end : tie.Need-part-reached-end
 part-reached-end c = row-within _ _ _ (c .before .before .before .before .shape-of .ensures) _ (c .before .before .row .given .1)
 
 reached-requires : tie.Need-reached-requires
-reached-requires c κs = let row = c .before .before .before .before .row .given .0 .0 in (named-part 64 (c .before .before .before .before .before .before .before .before .before .args .right) (c .before .before .before .before .before .before .before .before .before .args .left .now) (c .before .before .before .before .before .before .before .before .before .pre .0) (row .start) (row .start + row .size - row .start), c .before .before .before .before .before .before .before .before .before .pre .1)
+reached-requires c κs = let row = c .before .before .before .before .row .given .0 .0 in (named-part _ (c .before .before .before .before .before .before .before .before .before .args .right) (c .before .before .before .before .before .before .before .before .before .args .left .now) (c .before .before .before .before .before .before .before .before .before .pre .0) (row .start) (row .start + row .size - row .start), c .before .before .before .before .before .before .before .before .before .pre .1)
 
 name-requires : tie.Need-name-requires
 name-requires c κs = search needs
@@ -39,9 +40,12 @@ name-requires c κs = search needs
 cast-over : tie.Need-cast-over
 cast-over c = search needs
 
--- the right name
+-- the right name has a mask
+over-masked : (c : tie.After-name) → c .name .result < length (c .before .before .before .before .before .before .before .before .before .before .before .args .masks .now)
+over-masked c = rw (c .name .ensures) (named-name _ _ _ (c .before .before .before .before .before .before .before .before .before .before .before .pre .0))
+
 over-small : (c : tie.After-name) → c .name .result < 64
-over-small c = rw (c .name .ensures) (named-name 64 _ _ (c .before .before .before .before .before .before .before .before .before .before .before .pre .0))
+over-small c = omega (arith, over-masked c, c .before .before .before .before .before .before .before .before .before .before .before .pre .1)
 
 has-requires : tie.Need-has-requires
 has-requires c κs = over-small c
@@ -56,7 +60,7 @@ mul-below : tie.Need-mul-below
 mul-below c = search needs
 
 slice-read-below : tie.Need-slice-read-below
-slice-read-below c = omega (arith, over-small (c .before .before .before), c .before .before .before .before .before .before .before .before .before .before .before .before .before .before .pre .1)
+slice-read-below c = over-masked (c .before .before .before)
 
 same-length-2 : tie.Need-same-length-2
 same-length-2 c = search needs
@@ -65,7 +69,7 @@ returns-3 : tie.Need-returns-3
 returns-3 c = added-known _ _ _ (row-inner _ _ _ (c .before .before .before .before .before .before .before .before .before .before .before .before .shape-of .ensures) _ (c .before .before .before .before .before .before .before .before .before .before .row .given .1)) _ (c .before .before .before .before .before .reached .ensures) _ (c .before .before .before .before .name .ensures) (over-small (c .before .before .before .before)) (sym (c .before .before .before .has .ensures) ∙ c .before .before .if1 .left) (c .if2 .taken)
 
 absorb-requires : tie.Need-absorb-requires
-absorb-requires c κs = (over-small (c .before .before .before .before .before), c .before .before .before .before .before .before .before .before .before .before .before .before .before .before .before .before .pre .1)
+absorb-requires c κs = (over-masked (c .before .before .before .before .before), c .before .before .before .before .before .before .before .before .before .before .before .before .before .before .before .before .pre .1)
 
 same-length-3 : tie.Need-same-length-3
 same-length-3 c = search needs

@@ -3,16 +3,18 @@ use mathlib.Core.Logic.{⊎-elim}
 use Prim.Native.Nat.{_≤_, _-_}
 use native.Mathlib.Omega.{arith}
 use borrow.Author.Needs.{needs}
+use lib.ListN.{length}
 use lib.Count.{ones-le}
 use Rattle.order.specs.CountLaws.{Counting, counting-start, counting-empty, counting-next}
+use Rattle.orderer.specs.FrontLaws.{counting-past}
 use Rattle.orderer.proofs.counted.Statement.{statement}
 use Rattle.orderer.proofs.counted.Tie as tie
 
 abbrev Inv-loop : tie.InvT-loop
-Inv-loop masks levels₀ x₀ levels x = (x ≤ 64) × Counting masks levels x
+Inv-loop masks levels₀ x₀ levels x = (x ≤ length masks) × Counting masks levels x
 
 abbrev μ-loop : tie.MeasureT-loop
-μ-loop masks levels₀ x₀ levels x = 64 - x
+μ-loop masks levels₀ x₀ levels x = length masks - x
 
 loop-holds : tie.Need-loop-holds Inv-loop μ-loop
 loop-holds c = (omega arith, counting-start _)
@@ -39,13 +41,13 @@ loop-again : tie.Need-loop-again Inv-loop μ-loop
 loop-again c = (
   omega (arith, c .before .before .loop-test .taken),
   ⊎-elim
-      (λ w. rw (w .1) (counting-next _ _ _ (c .before .before .loop-test .taken) (c .before .shared-slice-known .given (c .before .before .before .loop .x) .fits) (c .before .before .before .loop .inv .1)))
-      (λ w. rw (w .1) (counting-empty _ _ _ (c .before .before .loop-test .taken) (w .0 .left) (c .before .before .before .loop .inv .1)))
+      (λ w. rw (w .1) (counting-next _ _ _ (omega (arith, c .before .before .loop-test .taken)) (c .before .shared-slice-known .given (c .before .before .before .loop .x) .fits) (c .before .before .before .loop .inv .1)))
+      (λ w. rw (w .1) (counting-empty _ _ _ (omega (arith, c .before .before .loop-test .taken)) (w .0 .left) (c .before .before .before .loop .inv .1)))
       (c .if1 .came),
 )
 
 returns : tie.Need-returns Inv-loop μ-loop
-returns c = (c .before .loop .inv .1 .size, λ x p. c .before .loop .inv .1 .past x (omega (arith, c .loop-test .left)))
+returns c = (c .before .loop .inv .1 .size, counting-past _ _ _ (c .loop-test .left) (c .before .loop .inv .1))
 
 pub counted-spec : {M : Type 1} → statement M
 counted-spec =

@@ -5,13 +5,13 @@ use native.Mathlib.Omega.{arith}
 use borrow.Author.Needs.{needs}
 use lib.ListN.{length}
 use Rattle.format.specs.Place.{rule-place}
-use Rattle.orderer.specs.GatherLaws.{handed-rule, Gathers, gathers-start, whole-rule, named-rule, gathers-next, gathers-clash, gathers-end}
+use Rattle.orderer.specs.GatherLaws.{handed-rule, Gathers, gathers-start, few-names, whole-rule, named-rule, gathers-next, gathers-clash, gathers-end}
 use Rattle.cursor.specs.CursorLaws.{AtRule, at-rule, some-rule}
 use Rattle.orderer.proofs.gather.Statement.{statement}
 use Rattle.orderer.proofs.gather.Tie as tie
 
 abbrev Inv-loop : tie.InvT-loop
-Inv-loop book header masks₀ rules cursor₀ number₀ masks cursor number = (number ≤ rules) × ((cursor .at ≡ rule-place book number) × ((length masks ≡ 64) × Gathers book masks number))
+Inv-loop book header masks₀ rules cursor₀ number₀ masks cursor number = (number ≤ rules) × ((cursor .at ≡ rule-place book number) × ((length masks ≡ header .names) × Gathers book masks number))
 
 abbrev μ-loop : tie.MeasureT-loop
 μ-loop book header masks₀ rules cursor₀ number₀ masks cursor number = rules - number
@@ -21,7 +21,7 @@ first-requires c κs = search needs
 
 loop-holds : tie.Need-loop-holds Inv-loop μ-loop
 unfolding rule-place
-loop-holds c = (omega arith, (c .first .ensures, (c .before .before .before .pre .1 .size, gathers-start _ _ (c .before .before .before .pre .1))))
+loop-holds c = (omega arith, (c .first .ensures, (c .before .before .before .pre .1 .0, gathers-start _ _ (c .before .before .before .pre .1 .1))))
 
 step-requires : tie.Need-step-requires Inv-loop μ-loop
 step-requires c κs = search needs
@@ -55,7 +55,7 @@ part-add-rule-end : tie.Need-part-add-rule-end Inv-loop μ-loop
 part-add-rule-end c = entry-at (c .before .before) .fits
 
 add-rule-requires : tie.Need-add-rule-requires Inv-loop μ-loop
-add-rule-requires c κs = (named-rule _ _ (c .before .before .before .before .before .before .before .before .before .before .before .before .pre .0) (c .before .before .before .before .before .before .before .before .loop .number) (c .before .before .before .before .before .before .before .loop-test .taken) _ (handed-rule _ _ _ _ (entry-at (c .before .before .before .before))), c .before .before .before .before .before .before .before .before .loop .inv .1 .1 .0)
+add-rule-requires c κs = (rw (c .before .before .before .before .before .before .before .before .loop .inv .1 .1 .0) (named-rule _ _ (c .before .before .before .before .before .before .before .before .before .before .before .before .pre .0) (c .before .before .before .before .before .before .before .before .loop .number) (c .before .before .before .before .before .before .before .loop-test .taken) _ (handed-rule _ _ _ _ (entry-at (c .before .before .before .before)))), rw (c .before .before .before .before .before .before .before .before .loop .inv .1 .1 .0) (few-names _ _ (c .before .before .before .before .before .before .before .before .before .before .before .before .pre .0)))
 
 enum-told-2 : tie.Need-enum-told-2 Inv-loop μ-loop
 enum-told-2 c = search needs

@@ -1,9 +1,16 @@
 -- `order` meets its contract: `read` settles causes 1 to 7, `gather` cause 8, and the counted masks are levels.
-use mathlib.Core.Path.{sym, ap, _∙_}
+use mathlib.Core.Path.{_≡_, sym, ap, _∙_}
+use Prim.Native.Nat.{ℕ, _≤_}
 use borrow.Author.Needs.{needs}
+use lib.ListN.{length, take, replicate}
+use lib.Seq.{length-take-le, take-at, length-front}
 use Rattle.causes.specs.GatherLaws.{ordered-refused}
+use Rattle.format.specs.Format.{read}
 use Rattle.format.specs.Result.{map-result}
+use Rattle.format.specs.Result.Result.{accepted}
 use Rattle.order.specs.AbsorbLaws.{holds-none}
+use Rattle.orderer.specs.FrontLaws.{holds-front}
+use Rattle.orderer.specs.GatherLaws.{few-names}
 use Rattle.orderer.specs.OrderLaws.{order-refused, order-passed}
 use Rattle.decoder.specs.Verdict.{header-of, says}
 use Rattle.orderer.proofs.order.Statement.{statement}
@@ -23,11 +30,25 @@ returns c =
     let r = ap says (c .enum-told .given .1) in
     order-refused _ _ (r ∙ sym (ap (map-result header-of) (ordered-refused header-of _ _ _ (sym r ∙ c .before .before .read .ensures)))) _ _ r
 
+-- the header is that of a book that `read` accepts, and has at most 64 names
+accepted-header : (c : tie.After-known-told) → map-result header-of (read (c .before .before .before .before .before .args .book .now)) ≡ accepted (c .before .verdict .given .0 .0)
+accepted-header c = sym (sym (ap says (c .before .verdict .given .1)) ∙ c .before .before .before .read .ensures)
+
+few : (c : tie.After-known-told) → c .before .verdict .given .0 .0 .names ≤ 64
+few c = few-names _ _ (accepted-header c)
+
+-- there is a mask for each name
+as-many : (c : tie.After-known-told) → length {A = ℕ} (take (c .before .verdict .given .0 .0 .names) (replicate 64 0)) ≡ c .before .verdict .given .0 .0 .names
+as-many c = length-take-le _ (replicate 64 0) (few c)
+
+array-borrow-prefix-masks : tie.Need-array-borrow-prefix-masks
+array-borrow-prefix-masks c = few c
+
 slice-aggregate-gather : tie.Need-slice-aggregate-gather
-slice-aggregate-gather c = search needs
+slice-aggregate-gather c = sym (as-many (c .before))
 
 gather-requires : tie.Need-gather-requires
-gather-requires c κs = (sym (sym (ap says (c .before .before .verdict .given .1)) ∙ c .before .before .before .before .read .ensures), holds-none)
+gather-requires c κs = (accepted-header (c .before), (as-many (c .before), holds-front (c .before .before .verdict .given .0 .0 .names) (replicate 64 0) holds-none))
 
 enum-told-2 : tie.Need-enum-told-2
 enum-told-2 c = search needs
@@ -38,14 +59,17 @@ enum-told-3 c = search needs
 returns-2 : tie.Need-returns-2
 returns-2 c = order-refused _ _ (c .before .before .before .gather .ensures .0) _ _ (ap says (c .enum-told3 .given .1))
 
+array-share-prefix-masks : tie.Need-array-share-prefix-masks
+array-share-prefix-masks c = rw (length-front {A = ℕ} (replicate 64 0) _ _ (c .before .before .before .gather .kept .1 .1 .0)) (few (c .before .before .before .before .before))
+
 slice-aggregate-counted : tie.Need-slice-aggregate-counted
-slice-aggregate-counted c = search needs
+slice-aggregate-counted c = sym (length-take-le _ _ (array-share-prefix-masks (c .before)))
 
 counted-requires : tie.Need-counted-requires
-counted-requires c κs = search needs
+counted-requires c κs = rw (length-take-le _ _ (array-share-prefix-masks (c .before))) (few (c .before .before .before .before .before .before))
 
 returns-3 : tie.Need-returns-3
-returns-3 c = order-passed _ _ (c .before .before .before .before .before .gather .ensures .0) _ (ap says (c .before .before .enum-told2 .given .1)) _ _ (c .before .before .before .before .before .gather .ensures .1) (c .counted .ensures .0) (c .counted .ensures .1)
+returns-3 c = order-passed _ _ (c .before .before .before .before .before .gather .ensures .0) _ (ap says (c .before .before .enum-told2 .given .1)) _ _ (c .before .before .before .before .before .gather .ensures .1) (c .counted .ensures .0) (rw (take-at _ _ _ (c .before .before .before .before .before .gather .kept .1 .1 .0 ∙ as-many (c .before .before .before .before .before .before .before))) at (c .counted .ensures .1))
 
 pub order-spec : {M : Type 1} → statement M
 order-spec =
@@ -55,11 +79,13 @@ order-spec =
     enum-known-verdict
     enum-told
     returns
+    array-borrow-prefix-masks
     slice-aggregate-gather
     gather-requires
     enum-told-2
     enum-told-3
     returns-2
+    array-share-prefix-masks
     slice-aggregate-counted
     counted-requires
     returns-3)

@@ -6,14 +6,15 @@ use native.Mathlib.Omega.{arith}
 use borrow.Author.Needs.{needs}
 use lib.ListN.{length}
 use Rattle.order.specs.AbsorbLaws.{above-own, above-has, above-none, Absorbing, absorbing-start, absorbing-grown, absorbing-kept, absorbing-end}
+use Rattle.orderer.specs.FrontLaws.{absorbing-past}
 use Rattle.orderer.proofs.masks.absorb.Statement.{statement}
 use Rattle.orderer.proofs.masks.absorb.Tie as tie
 
 abbrev Inv-loop : tie.InvT-loop
-Inv-loop masks₀ right lower x₀ masks x = (x ≤ 64) × Absorbing masks₀ right lower masks x
+Inv-loop masks₀ right lower x₀ masks x = (x ≤ length masks₀) × Absorbing masks₀ right lower masks x
 
 abbrev μ-loop : tie.MeasureT-loop
-μ-loop masks₀ right lower x₀ masks x = 64 - x
+μ-loop masks₀ right lower x₀ masks x = length masks₀ - x
 
 loop-holds : tie.Need-loop-holds Inv-loop μ-loop
 loop-holds c = (omega arith, absorbing-start _ _ _)
@@ -61,7 +62,7 @@ same-length : tie.Need-same-length Inv-loop μ-loop
 same-length c = search needs
 
 returns : tie.Need-returns Inv-loop μ-loop
-returns c = absorbing-end _ _ _ _ _ (c .loop-test .left) (c .before .before .before .pre .0) (c .before .loop .inv .1)
+returns c = absorbing-end _ _ _ _ _ (omega arith) (omega arith) (absorbing-past _ _ _ _ _ (omega (arith, c .before .loop .inv .1 .size)) (omega arith) (c .before .before .before .pre .0) (c .before .loop .inv .1))
 
 pub absorb-spec : {M : Type 1} → statement M
 absorb-spec =

@@ -23,10 +23,13 @@ shared-slice-read-name c = search needs
 name-requires : tie.Need-name-requires Inv-loop μ-loop
 name-requires c κs = search needs
 
--- the name of the role read
-name-small : (c : tie.After-name Inv-loop μ-loop) → c .name .result < 64
+-- the name of the role read has a mask
+name-masked : (c : tie.After-name Inv-loop μ-loop) → c .name .result < length (c .before .before .before .before .before .before .args .masks .now)
 unfolding name
-name-small c = omega (arith, c .name .ensures, c .before .before .before .before .before .before .pre .0 (c .before .before .before .loop .i) (c .before .before .loop-test .taken))
+name-masked c = omega (arith, c .name .ensures, c .before .before .before .before .before .before .pre .0 (c .before .before .before .loop .i) (c .before .before .loop-test .taken))
+
+name-small : (c : tie.After-name Inv-loop μ-loop) → c .name .result < 64
+name-small c = omega (arith, name-masked c, c .before .before .before .before .before .before .pre .1)
 
 cast-inner : tie.Need-cast-inner Inv-loop μ-loop
 cast-inner c = omega (arith, name-small c)
@@ -38,7 +41,7 @@ mul-lower : tie.Need-mul-lower Inv-loop μ-loop
 mul-lower c = omega (arith, name-small (c .before))
 
 shared-slice-read-lower : tie.Need-shared-slice-read-lower Inv-loop μ-loop
-shared-slice-read-lower c = omega (arith, name-small (c .before .before), c .before .before .before .before .before .before .before .before .pre .1)
+shared-slice-read-lower c = name-masked (c .before .before)
 
 add-i : tie.Need-add-i Inv-loop μ-loop
 add-i c = search needs
