@@ -1,13 +1,13 @@
 // Answers a question put to tables: whether they accept a chain for a role, or the first cause of document 01, 12 to 14, that refuses
 // the question.
-ghost use mathlib.Core.Bool.{true};
 ghost use mathlib.Core.Path.{_≡_};
 ghost use Prim.Native.Nat.{_+_, _<_, _≤_};
 ghost use lib.ListN.{length};
 ghost use Rattle.format.specs.Result.Result.{accepted};
 ghost use Rattle.queries.specs.Query.{query, asked, Accepts, Answered};
 ghost use Rattle.simulation.specs.Decides.{Decides};
-ghost use Rattle.simulation.specs.Transitions.{Fit};
+ghost use Rattle.simulation.specs.Transitions.{transition-count, Fit};
+ghost use Rattle.simulation.specs.Index.{Indexed};
 ghost use Rattle.simulation.specs.Reading.{Letters, Leads};
 ghost use Rattle.answerer.specs.Answer.{says};
 
@@ -16,6 +16,7 @@ mod reading;
 mod states;
 
 use index::fill_index;
+use index::fill_within;
 use questions::QueryRefusal;
 use questions::Question;
 use reading::run;
@@ -53,44 +54,27 @@ fn accepts(heads: &[u16], moves: &[u16], role: u8, chain: &[u8]) -> bool
     ensures { λ r. ⌜ Decides r (Accepts (now (heads .entry)) (now (moves .entry)) role (now (chain .entry))) ⌝ }
 {
     let head = heads[name(role) as usize] as usize;
-    if head < 63 && moves.len() <= 576 && within(moves, 64) {
-        return accepts_few(moves, role, chain, head);
+    if head < 63 && moves.len() <= 576 {
+        let mut index = [0u16; 320];
+        if fill_within(moves, 64, &mut index) {
+            return accepts_few(moves, &index, role, chain, head);
+        }
     }
     accepts_many(moves, role, chain, head)
 }
 
-// Whether all states of the transitions are below some room.
-fn within(moves: &[u16], room: u16) -> bool
-    ensures { λ r. ⌜ (r ≡ true → Fit room (now (moves .entry))) ⌝ }
-{
-    let count = moves.len() / 3;
-    let mut k = 0;
-    while k < count {
-        if room <= moves[3 * k] {
-            return false;
-        }
-        if room <= moves[3 * k + 2] {
-            return false;
-        }
-        k += 1;
-    }
-    true
-}
-
 // Small tables are read in small arrays, which take less time to clear.
-fn accepts_few(moves: &[u16], role: u8, chain: &[u8], head: usize) -> bool
-    requires { ⌜ (length (now moves) ≤ 576) × Fit 64 (now moves) ⌝ }
+fn accepts_few(moves: &[u16], index: &[u16], role: u8, chain: &[u8], head: usize) -> bool
+    requires { ⌜ Indexed 64 (now moves) (now index) (transition-count (now moves)) ⌝ }
     requires { ⌜ Letters (now chain) ⌝ }
     requires { ⌜ head < 63 ⌝ }
     ensures { λ r. ⌜ Decides r (Leads (now (moves .entry)) head (asked role (now (chain .entry))) (head + 1)) ⌝ }
 {
-    let mut index = [0u16; 320];
     let mut states = [0u16; 128];
     let mut others = [0u16; 128];
-    fill_index(moves, 64, &mut index);
     run(
         moves,
-        &index,
+        index,
         64,
         role,
         chain,

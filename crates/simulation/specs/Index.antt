@@ -4,11 +4,11 @@ use mathlib.Core.List.{List}
 use mathlib.Core.Path.{_≡_}
 use Prim.Native.Nat.{ℕ, _+_, _*_, _-_, _<_, _≤_}
 use lib.Dec.{eqb}
-use lib.ListN.{length}
+use lib.ListN.{length, getD}
 use Rattle.tables.specs.Tables.{epsilon}
 use Rattle.linked.specs.Linked.{Linked}
 use Rattle.simulation.specs.States.{Member, Added}
-use Rattle.simulation.specs.Transitions.{from-at, label-at, to-at, transition-count, Arrow, Fit}
+use Rattle.simulation.specs.Transitions.{from-at, label-at, to-at, transition-count, Arrow, Fits}
 
 module _ (room : ℕ) where
   -- which list has the transitions from p with the label a
@@ -18,10 +18,17 @@ module _ (room : ℕ) where
   abbrev pub slot-at : List ℕ → ℕ → ℕ
   slot-at moves k = slot (from-at moves k) (label-at moves k)
 
+  -- numbers that have space for an index, with empty lists
+  pub record Empty (moves index : List ℕ) : Type 0 where
+    pub few : room ≤ 2048
+    pub space : 2 * room + transition-count moves ≤ length index
+    pub short : length index ≤ 9216
+    pub clear : (x : ℕ) → x < 2 * room → getD index x 0 ≡ 0
+
   -- the index of the first n transitions
   pub record Indexed (moves index : List ℕ) (n : ℕ) : Type 0 where
     pub few : room ≤ 2048
-    pub fit : Fit room moves
+    pub fit : Fits room moves n
     pub space : 2 * room + transition-count moves ≤ length index
     pub short : length index ≤ 9216
     pub linked : Linked (slot-at moves) (2 * room) index n

@@ -5,17 +5,18 @@ use mathlib.Core.Logic.{_⊎_, inl, inr}
 use mathlib.Core.Path.{_≡_, refl, sym, ap, _∙_}
 use Prim.Native.Nat.{ℕ, _+_, _*_, _-_, _<_, _≤_}
 use native.Mathlib.Omega.{arith}
+use borrow.Author.Count.{below-more}
 use borrow.Author.Tests.{eq-eqb, ne-eqb}
 use lib.Dec.{eqb}
-use lib.ListN.{length, getD, set, length-set}
+use lib.ListN.{getD, set, length-set}
 use Rattle.tables.specs.Tables.{epsilon}
 use Rattle.linked.specs.Linked.{Latest}
 use Rattle.linked.specs.LinkedLaws as linked
 use Rattle.simulation.specs.States.{States, Member, Put}
 use Rattle.simulation.specs.StatesLaws.{added-none, added-on, added-as, still-member}
-use Rattle.simulation.specs.Transitions.{from-at, label-at, to-at, transition-count, Arrow, Fit}
+use Rattle.simulation.specs.Transitions.{from-at, label-at, to-at, transition-count, Arrow}
 use Rattle.simulation.specs.TransitionsLaws.{Numbered, arrow-at, numbered}
-use Rattle.simulation.specs.Index.{slot, slot-at, Indexed, Spread, Walked}
+use Rattle.simulation.specs.Index.{slot, slot-at, Empty, Indexed, Spread, Walked}
 
 module _ (room : ℕ) where
   pub slot-below : (p a : ℕ) → p < room → slot room p a < 2 * room
@@ -44,29 +45,32 @@ module _ (room : ℕ) where
       by-test false h = h
 
   -- no transition is in
-  pub indexed-none : (moves index : List ℕ) → room ≤ 2048 → Fit room moves → 2 * room + transition-count moves ≤ length index → length index ≤ 9216
-      → ((x : ℕ) → x < 2 * room → getD index x 0 ≡ 0) → Indexed room moves index 0
-  indexed-none moves index few fit space short clear =
+  pub indexed-none : (moves index : List ℕ) → Empty room moves index → Indexed room moves index 0
+  indexed-none moves index empty =
       record {
-        few = few;
-        fit = fit;
-        space = space;
-        short = short;
-        linked = linked.linked-none (slot-at room moves) (2 * room) index (omega (arith, space)) clear;
+        few = empty .few;
+        fit = record { from-fits = λ k l. omega (arith, l); to-fits = λ k l. omega (arith, l) };
+        space = empty .space;
+        short = empty .short;
+        linked = linked.linked-none (slot-at room moves) (2 * room) index (omega (arith, empty .space)) (empty .clear);
       }
 
   -- one more transition enters
-  pub indexed-more : (moves index : List ℕ) (n : ℕ) → Indexed room moves index n → n < transition-count moves
+  pub indexed-more : (moves index : List ℕ) (n : ℕ) → Indexed room moves index n → n < transition-count moves → from-at moves n < room → to-at moves n < room
       → Indexed room moves (set (set index (2 * room + n) (getD index (slot-at room moves n) 0)) (slot-at room moves n) (n + 1)) (n + 1)
-  indexed-more moves index n so-far more =
+  indexed-more moves index n so-far more from to =
       record {
         few = so-far .few;
-        fit = so-far .fit;
+        fit =
+            record {
+              from-fits = below-more (λ (k : ℕ). from-at moves k < room) n (so-far .fit .from-fits) from;
+              to-fits = below-more (λ (k : ℕ). to-at moves k < room) n (so-far .fit .to-fits) to;
+            };
         space = simp length-set (so-far .space);
         short = simp length-set (so-far .short);
         linked =
             linked.linked-more (slot-at room moves) (2 * room) index n (so-far .linked) (omega (arith, so-far .space))
-            (slot-below (from-at moves n) (label-at moves n) (so-far .fit .from-fits n more));
+            (slot-below (from-at moves n) (label-at moves n) from);
       }
 
   -- a walk along the list for the state p and the label a

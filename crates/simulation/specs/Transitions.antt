@@ -25,7 +25,11 @@ arrow p a q = record { from = p; label = a; to = q }
 abbrev pub Arrow : List ℕ → (p a q : ℕ) → Type 0
 Arrow moves p a q = List·Memᴰ (arrow p a q) (transitions-in moves)
 
--- between states below some room
-pub record Fit (room : ℕ) (moves : List ℕ) : Type 0 where
-  pub from-fits : (k : ℕ) → k < transition-count moves → from-at moves k < room
-  pub to-fits : (k : ℕ) → k < transition-count moves → to-at moves k < room
+-- the first n are between states below some room
+pub record Fits (room : ℕ) (moves : List ℕ) (n : ℕ) : Type 0 where
+  pub from-fits : (k : ℕ) → k < n → from-at moves k < room
+  pub to-fits : (k : ℕ) → k < n → to-at moves k < room
+
+-- all are
+abbrev pub Fit : (room : ℕ) (moves : List ℕ) → Type 0
+Fit room moves = Fits room moves (transition-count moves)

@@ -1,17 +1,10 @@
--- `accepts_few` meets its contract: fresh arrays are an empty index and unused sets, and `run` decides the rest.
-use Rattle.simulation.specs.StatesLaws.{unused-zeros}
+-- `accepts_few` meets its contract: fresh arrays are unused sets, and `run` decides the rest.
 use mathlib.Core.Path.{refl}
 use native.Mathlib.Omega.{arith}
-use lib.ListN.{getD-replicate}
 use borrow.Author.Needs.{needs}
+use Rattle.simulation.specs.StatesLaws.{unused-zeros}
 use Rattle.answerer.proofs.accepts_few.Statement.{statement}
 use Rattle.answerer.proofs.accepts_few.Tie as tie
-
-slice-aggregate-fill-index : tie.Need-slice-aggregate-fill-index
-slice-aggregate-fill-index c = search needs
-
-fill-index-requires : tie.Need-fill-index-requires
-fill-index-requires c κs = ((omega arith, c .before .before .before .pre .0 .1), ((omega (arith, c .before .before .before .pre .0 .0), omega arith), λ x l. getD-replicate 320 x 0 0 (omega arith)))
 
 slice-aggregate-run : tie.Need-slice-aggregate-run
 slice-aggregate-run c = search needs
@@ -19,23 +12,12 @@ slice-aggregate-run c = search needs
 slice-aggregate-run-2 : tie.Need-slice-aggregate-run-2
 slice-aggregate-run-2 c = search needs
 
-slice-aggregate-run-3 : tie.Need-slice-aggregate-run-3
-slice-aggregate-run-3 c = search needs
-
 run-requires : tie.Need-run-requires
-run-requires c κs = (c .before .before .before .before .fill-index .ensures, (c .before .before .before .before .before .before .before .before .pre .1 .0, (omega (arith, c .before .before .before .before .before .before .before .before .pre .1 .1), (unused-zeros _ _ refl, unused-zeros _ _ refl))))
+run-requires c κs = (c .before .before .before .before .before .pre .0, (c .before .before .before .before .before .pre .1 .0, (omega (arith, c .before .before .before .before .before .pre .1 .1), (unused-zeros _ _ refl, unused-zeros _ _ refl))))
 
 returns : tie.Need-returns
 returns c = search needs
 
 pub accepts-few-spec : {M : Type 1} → statement M
 accepts-few-spec =
-    tie.close
-    (tie.spec
-    slice-aggregate-fill-index
-    fill-index-requires
-    slice-aggregate-run
-    slice-aggregate-run-2
-    slice-aggregate-run-3
-    run-requires
-    returns)
+    tie.close (tie.spec slice-aggregate-run slice-aggregate-run-2 run-requires returns)

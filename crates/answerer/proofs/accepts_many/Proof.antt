@@ -1,9 +1,10 @@
--- `accepts_many` meets its contract, as `accepts_few` does.
-use Rattle.simulation.specs.StatesLaws.{unused-zeros}
+-- `accepts_many` meets its contract: fresh arrays are an empty index and unused sets, and `run` decides the rest.
 use mathlib.Core.Path.{refl}
+use Prim.Native.Nat.{ℕ}
 use native.Mathlib.Omega.{arith}
-use lib.ListN.{getD-replicate}
 use borrow.Author.Needs.{needs}
+use lib.ListN.{getD-replicate}
+use Rattle.simulation.specs.StatesLaws.{unused-zeros}
 use Rattle.answerer.proofs.accepts_many.Statement.{statement}
 use Rattle.answerer.proofs.accepts_many.Tie as tie
 
@@ -11,7 +12,7 @@ slice-aggregate-fill-index : tie.Need-slice-aggregate-fill-index
 slice-aggregate-fill-index c = search needs
 
 fill-index-requires : tie.Need-fill-index-requires
-fill-index-requires c κs = ((omega arith, c .before .before .before .pre .0 .1), ((omega (arith, c .before .before .before .pre .0 .0), omega arith), λ x l. getD-replicate 9216 x 0 0 (omega arith)))
+fill-index-requires c κs = (c .before .before .before .pre .0 .1, record { few = omega arith; space = omega (arith, c .before .before .before .pre .0 .0); short = omega arith; clear = λ x l. getD-replicate {A = ℕ} 9216 x 0 0 (omega arith) })
 
 slice-aggregate-run : tie.Need-slice-aggregate-run
 slice-aggregate-run c = search needs
