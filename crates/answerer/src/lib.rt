@@ -11,10 +11,13 @@ ghost use Rattle.simulation.specs.Index.{Indexed};
 ghost use Rattle.simulation.specs.Reading.{Letters, Leads};
 ghost use Rattle.answerer.specs.Answer.{says};
 
+mod batch;
 mod index;
 mod reading;
 mod states;
 
+pub use batch::Batch;
+pub use batch::ask_all;
 use index::fill_index;
 use index::fill_within;
 use questions::QueryRefusal;
@@ -79,6 +82,7 @@ fn accepts_few(moves: &[u16], index: &[u16], role: u8, chain: &[u8], head: usize
         role,
         chain,
         head,
+        1,
         &mut states,
         &mut others,
     )
@@ -101,6 +105,7 @@ fn accepts_many(moves: &[u16], role: u8, chain: &[u8], head: usize) -> bool
         role,
         chain,
         head,
+        1,
         &mut states,
         &mut others,
     )

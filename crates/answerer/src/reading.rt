@@ -1,6 +1,6 @@
 // Reads a chain link by link with sets of states: only the active states and their transitions are visited.
 ghost use mathlib.Core.Path.{_≡_};
-ghost use Prim.Native.Nat.{_+_, _<_};
+ghost use Prim.Native.Nat.{_+_, _<_, _≤_};
 ghost use lib.ListN.{length, getD};
 ghost use Rattle.queries.specs.Query.{asked};
 ghost use Rattle.simulation.specs.Decides.{Decides};
@@ -15,7 +15,7 @@ use role_bytes::inverse;
 use role_bytes::is_inverse;
 
 // Whether a path from the state `head` to the next one spells the chain, or its inverse if the role is the inverse of a name. The set after
-// i links has the stamp i + 1; the links go to and fro between the two sets.
+// i links has the i-th stamp after the given one; the links go to and fro between the two sets.
 pub(crate) fn run(
     moves: &[u16],
     index: &[u16],
@@ -23,19 +23,23 @@ pub(crate) fn run(
     role: u8,
     chain: &[u8],
     head: usize,
+    stamp: u16,
     states: &mut [u16],
     others: &mut [u16],
 ) -> bool
     requires { ⌜ Indexed room (now moves) (now index) (transition-count (now moves)) ⌝ }
     requires { ⌜ Letters (now chain) ⌝ }
-    requires { ⌜ head + 1 < room ⌝ }
-    requires { ⌜ Unused room 1 (now states) ⌝ }
-    requires { ⌜ Unused room 1 (now others) ⌝ }
+    requires { ⌜ (head + 1 < room) × (stamp ≤ 64000) ⌝ }
+    requires { ⌜ Unused room stamp (now states) ⌝ }
+    requires { ⌜ Unused room stamp (now others) ⌝ }
     ensures { λ r. ⌜ Decides r (Leads (now (moves .entry)) head (asked role (now (chain .entry))) (head + 1)) ⌝ }
+    ensures { λ _. ⌜ Unused room (stamp + length (now (chain .entry)) + 1) (now (states .exit)) ⌝ }
+    ensures { λ _. ⌜ Unused room (stamp + length (now (chain .entry)) + 1) (now (others .exit)) ⌝ }
 {
     let size = chain.len();
-    let started = put(states, room, 1, 0, head);
-    let mut count = close(moves, index, room, states, 1, started);
+    let started = put(states, room, stamp, 0, head);
+    let mut count = close(moves, index, room, states, stamp, started);
+    let mut newest = stamp;
     let mut i = 0;
     while i + 1 < size {
         let found = step(
@@ -46,7 +50,7 @@ pub(crate) fn run(
             states,
             count,
             others,
-            (i + 2) as u16,
+            newest + 1,
         );
         count = step(
             moves,
@@ -56,8 +60,9 @@ pub(crate) fn run(
             others,
             found,
             states,
-            (i + 3) as u16,
+            newest + 2,
         );
+        newest += 2;
         i += 2;
     }
     if i < size {
@@ -69,11 +74,11 @@ pub(crate) fn run(
             states,
             count,
             others,
-            (i + 2) as u16,
+            newest + 1,
         );
-        return contains(others, room, (i + 2) as u16, head + 1);
+        return contains(others, room, newest + 1, head + 1);
     }
-    contains(states, room, (i + 1) as u16, head + 1)
+    contains(states, room, newest, head + 1)
 }
 
 // Link i of the chain, or of its inverse if the role is the inverse of a name.

@@ -8,7 +8,7 @@ mod refusal;
 
 use checks::chain_fits;
 use checks::roles_fit;
-use checks::tables_fit;
+pub use checks::tables_fit;
 pub use refusal::QueryRefusal;
 pub use refusal::cause;
 use refusals::Check;

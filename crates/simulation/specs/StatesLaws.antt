@@ -24,6 +24,17 @@ pub unused-zeros : (room size : ℕ) → size ≡ 2 * room → Unused room 1 (re
 unused-zeros room size e =
     record { size = length-replicate size 0 ∙ e; older = λ q l. rw (getD-replicate {A = ℕ} size (room + q) 0 0 (omega arith)) (omega arith) }
 
+-- numbers set to 0, one by one, are older than every stamp
+pub cleared-more : (s : List ℕ) (i : ℕ) → i < length s → ((x : ℕ) → x < i → getD s x 0 ≡ 0) → (x : ℕ) → x < i + 1 → getD (set s i 0) x 0 ≡ 0
+cleared-more s i l so-far x k = by-place (eq-or-ne x i)
+  where
+    by-place : (x ≡ i) ⊎ (x ≡ i → ⊥) → getD (set s i 0) x 0 ≡ 0
+    by-place (inl e) = rw e (getD-set-same s i 0 0 l)
+    by-place (inr e) = getD-set-other s i x 0 0 e ∙ so-far x (omega arith)
+
+pub unused-cleared : (room : ℕ) (s t : List ℕ) → length s ≡ 2 * room → length t ≡ length s → ((x : ℕ) → x < length s → getD t x 0 ≡ 0) → Unused room 1 t
+unused-cleared room s t size same clear = record { size = same ∙ size; older = λ q l. rw (clear (room + q) (omega arith)) (omega arith) }
+
 -- what a stamp is newer than, a later one is
 pub unused-later : (room stamp later : ℕ) (s : List ℕ) → stamp ≤ later → Unused room stamp s → Unused room later s
 unused-later room stamp later s h u = record { size = u .size; older = λ q l. omega (arith, u .older q l) }

@@ -1,17 +1,17 @@
 -- What answering the questions of a block promises.
-use mathlib.Core.Bool.{Bool, cond, _&&_}
+use mathlib.Core.Bool.{true, false, cond, _&&_}
 use mathlib.Core.List.{List, [], _++_}
 use mathlib.Core.Path.{_≡_}
 use Prim.Native.Nat.{ℕ, _+_, _<_, _≤_}
 use lib.Dec.{leb}
-use lib.ListN.{length, getD, take, drop}
+use lib.ListN.{length, drop}
 use lib.Seq.{slice}
-use Rattle.format.specs.Result.{Result}
 use Rattle.queries.specs.Query.{Answered}
-use Rattle.transcripts.specs.Lines.{answer-line}
 use Rattle.transcripts.specs.Transcript.{next, Transcript}
 use Rattle.transcripts.specs.Transcript.Next.{nothing, part}
+use Rattle.answerer.specs.Batch.{Broken}
 use Rattle.transcriber.specs.declared.block.Progress.{Progress}
+use Rattle.transcriber.specs.declared.block.Run.{Run}
 use Rattle.transcriber.specs.Puts.{Puts}
 
 -- lines for a front part of the input q are put into the buffer: whatever follows on the input, the lines for the rest of it, with the numbers
@@ -34,11 +34,16 @@ pub record Advances (hs ms : List ℕ) (k : ℕ) (q out out′ : List ℕ) (p : 
   pub advanced : Advanced hs ms k q out (p .number) (p .read) (p .written) out′
   pub stopped : Stopped q out p
 
--- the line of the whole question of so many links at the front of s is put into the buffer
-pub record Answers (hs ms : List ℕ) (k : ℕ) (s : List ℕ) (links : ℕ) (out : List ℕ) (at : ℕ) (out′ : List ℕ) (end : ℕ) : Type 0 where
-  pub answer : Result Bool
-  pub answered : Answered hs ms (getD s 0 0) (take links (drop 3 s)) answer
-  pub puts : Puts out at (answer-line k answer) out′ end
+-- lines for questions at the front of s are put into the buffer at a place; the run stays open only where it has read some
+pub record Runs (hs ms : List ℕ) (k : ℕ) (s out : List ℕ) (at : ℕ) (out′ : List ℕ) (r : Run) : Type 0 where
+  pub lines : List ℕ
+  pub puts : Puts out at lines out′ (r .written)
+  pub within : r .read ≤ length s
+  pub counted : k + r .answered ≤ 18446744073709551615
+  pub completes : (more rest : List ℕ) → Transcript (Answered hs ms) (k + r .answered) (drop (r .read) s ++ more) rest
+      → Transcript (Answered hs ms) k (s ++ more) (lines ++ rest)
+  pub goes : r .follows ≡ true → 0 < r .read
+  pub ends : r .follows ≡ false → Broken (drop (r .read) s)
 
 -- the bytes from one place up to another, where there are such places
 abbrev pub kept : (from end : ℕ) → List ℕ → List ℕ

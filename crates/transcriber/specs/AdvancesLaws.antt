@@ -1,97 +1,163 @@
--- How answering one question, turn by turn, and stopping give what a block promises.
-use mathlib.Core.List.{List, [], _++_, append-assoc}
-use mathlib.Core.Path.{_≡_, refl, sym, ap, ap₂, _∙_, subst}
-use Prim.Native.Nat.{ℕ, suc, _+_, _-_, _<_, _≤_}
+-- How the answers of a batch, run by run, and stopping give what a block promises.
+use mathlib.Core.Bool.{Bool, true, false, not}
+use mathlib.Core.List.{List, [], _∷_, _++_, append-assoc, append-nil}
+use mathlib.Core.Logic.{_⊎_, inl, inr}
+use mathlib.Core.Path.{_≡_, refl, sym, ap, _∙_}
+use Prim.Native.Nat.{ℕ, zero, suc, _+_, _-_, _*_, _<_, _≤_}
 use native.Mathlib.Omega.{arith}
-use lib.ListN.{length, getD, take, drop, length-drop}
-use lib.Seq.{getD-drop, drop-drop}
+use borrow.Author.Tests.{eqb-true, eqb-false}
+use lib.Dec.{eqb}
+use lib.ListN.{length, getD, take, drop, length-append, length-drop}
+use lib.Seq.{drop-drop, take-suc, take-all, take-append-le, length-take-le}
+use Rattle.roles.specs.Tests.{eq-or-ne}
 use Rattle.queries.specs.Query.{Answered}
 use Rattle.transcripts.specs.Lines.{answer-line}
-use Rattle.transcripts.specs.Transcript.{Transcript}
+use Rattle.transcripts.specs.Transcript.{next, Transcript}
+use Rattle.transcripts.specs.Transcript.Next.{nothing, part}
 use Rattle.transcripts.specs.Transcript.Transcript.{answered}
-use Rattle.transcripts.specs.TranscriptLaws.{links-of, next-whole}
-use Rattle.answerer.specs.declared.Answer.{Answer}
-use Rattle.answerer.specs.Answer.{says}
+use Rattle.transcripts.specs.TranscriptLaws.{next-whole, next-part}
+use Rattle.answerer.specs.Batch.{told, Broken, Batched, Batches}
+use Rattle.answerer.specs.Batch.Batched.{none, more}
+use Rattle.answerer.specs.declared.batch.Batch.{Batch}
 use Rattle.transcriber.specs.declared.block.Progress.{Progress}
-use Rattle.transcriber.specs.declared.question.Question.{Question}
-use Rattle.transcriber.specs.declared.question.Question.the-variants.{Whole}
+use Rattle.transcriber.specs.declared.block.Run.{Run}
 use Rattle.transcriber.specs.Puts.{Puts}
 use Rattle.transcriber.specs.PutsLaws.{puts-none, puts-then, puts-length}
-use Rattle.transcriber.specs.Found.{Found}
-use Rattle.transcriber.specs.Found.Found.{found-nothing, found-part, found-whole}
-use Rattle.transcriber.specs.Advances.{Advanced, Stopped, Advances, Answers}
+use Rattle.transcriber.specs.Said.{answer-lines}
+use Rattle.transcriber.specs.FoundLaws.{next-nothing}
+use Rattle.transcriber.specs.Advances.{Advanced, Stopped, Advances, Runs}
 use Rattle.transcriber.specs.Advances.Stopped.{nothing-left, part-left, full, counted-out}
 
--- the line of the question at a place
-pub answers : (hs ms q out out′ : List ℕ) (k read links at end : ℕ) (a : Answer)
-    → Answered hs ms (getD q read 0) (take (read + 3 + links - (read + 3)) (drop (read + 3) q)) (says a)
-    → Puts out at (answer-line k (says a)) out′ end → Answers hs ms k (drop read q) links out at out′ end
-answers hs ms q out out′ k read links at end a t p =
-    let size : read + 3 + links - (read + 3) ≡ links = omega arith in
-    let none : read + 0 ≡ read = omega arith in
-    let role : getD (drop read q) 0 0 ≡ getD q read 0 = getD-drop read q 0 0 ∙ ap (λ (i : ℕ). getD q i 0) none in
-    let chain : take links (drop 3 (drop read q)) ≡ take (read + 3 + links - (read + 3)) (drop (read + 3) q) =
-    ap₂ (λ (n : ℕ) (s : List ℕ). take n s) (sym size) (drop-drop 3 read q) in
-    record { answer = says a; answered = rw (role, chain) t; puts = p }
+-- one more line
+lines-more : (k : ℕ) (bytes : List ℕ) (byte : ℕ) → answer-lines k (bytes ++ (byte ∷ [])) ≡ answer-lines k bytes ++ answer-line (k + length bytes) (told byte)
+lines-more k [] byte =
+    let same : k + 0 ≡ k = omega arith in
+    rw same (append-nil (answer-line k (told byte)))
+lines-more k (b ∷ bytes) byte =
+    let sum : suc k + length bytes ≡ k + suc (length bytes) = omega arith in
+    rw (append-assoc (answer-line k (told b)) (answer-lines (suc k) bytes) (answer-line (k + suc (length bytes)) (told byte)), ← sum)
+    (ap (λ (s : List ℕ). answer-line k (told b) ++ s) (lines-more (suc k) bytes byte))
 
--- a whole question that was found
-whole-at : (s : List ℕ) (links : ℕ) → Found s (Whole links) → (links ≡ links-of s) × (3 + links ≤ length s)
-whole-at s _ (found-whole links e long) = (e, long)
+pub lines-next : (k : ℕ) (bytes : List ℕ) (i : ℕ) → i < length bytes
+    → answer-lines k (take i bytes) ++ answer-line (k + i) (told (getD bytes i 0)) ≡ answer-lines k (take (i + 1) bytes)
+lines-next k bytes i l =
+    let one : i + 1 ≡ suc i = omega arith in
+    let size : length (take i bytes) ≡ i = length-take-le i bytes (omega arith) in
+    sym (rw (one, take-suc bytes i 0 l) (rw size at (lines-more k (take i bytes) (getD bytes i 0))))
 
-pub whole-found : (s : List ℕ) (links : ℕ) (r : Question) → Found s r → r ≡ Whole links → (links ≡ links-of s) × (3 + links ≤ length s)
-whole-found s links r f e = whole-at s links (subst (Found s) e f)
+-- what answers of a batch say of its questions
+module _ (hs ms : List ℕ) where
+  batched-within : (s : List ℕ) (n : ℕ) (bytes : List ℕ) → Batched hs ms s n bytes → n ≤ length s
+  batched-within _ _ _ (none s) = omega arith
+  batched-within _ _ _ (more s byte n bytes w a b) = omega (arith, w, batched-within _ n bytes b, length-drop (3 + (getD s 1 0 + 256 * getD s 2 0)) s)
 
-pub whole-fits : (q : List ℕ) (read links : ℕ) (r : Question) → read ≤ length q → Found (drop read q) r → r ≡ Whole links → read + 3 + links ≤ length q
-whole-fits q read links r h f e = omega (arith, h, length-drop read q, whole-found (drop read q) links r f e .1)
+  batched-some : (s : List ℕ) (n : ℕ) (bytes : List ℕ) → Batched hs ms s n bytes → 0 < length bytes → 0 < n
+  batched-some _ _ _ (none s) l = absurd (let f : ⊥ = omega (arith, l) in f)
+  batched-some _ _ _ (more s byte n bytes w a b) l = omega arith
+
+  batched-completes : (s : List ℕ) (n : ℕ) (bytes : List ℕ) → Batched hs ms s n bytes → (k : ℕ) (later rest : List ℕ)
+      → Transcript (Answered hs ms) (k + length bytes) (drop n s ++ later) rest → Transcript (Answered hs ms) k (s ++ later) (answer-lines k bytes ++ rest)
+  batched-completes _ _ _ (none s) k later rest t = let same : k + 0 ≡ k = omega arith in rw same at t
+  batched-completes _ _ _ (more s byte n bytes w a b) k later rest t =
+      let links : ℕ = getD s 1 0 + 256 * getD s 2 0 in
+      let sum : k + suc (length bytes) ≡ suc k + length bytes = omega arith in
+      let ih = batched-completes (drop (3 + links) s) n bytes b (suc k) later rest (rw (sum, ← drop-drop n (3 + links) s) at t) in
+      rw (append-assoc (answer-line k (told byte)) (answer-lines (suc k) bytes) rest)
+      (answered k (s ++ later) _ _ _ (told byte) (answer-lines (suc k) bytes ++ rest) (next-whole s later w) a ih)
+
+-- the run that a batch gives, whose answers are lent the first `most` bytes of a buffer
+module _ (hs ms q : List ℕ) (most : ℕ) (buffer : List ℕ) (enough : most ≤ length buffer) (answers : List ℕ) (b : Batch) (p : Batches hs ms q (take most buffer) answers b) where
+  pub lent-size : length (take most buffer) ≡ most
+  lent-size = length-take-le most buffer enough
+
+  pub lent-few : b .answered ≤ most
+  lent-few = omega (arith, p .fits, lent-size)
+
+  lent-long : b .answered ≤ length answers
+  lent-long = omega (arith, p .fits, p .same)
+
+  pub lent-fits : b .answered ≤ length (answers ++ drop most buffer)
+  lent-fits = omega (arith, lent-long, length-append answers (drop most buffer))
+
+  pub lent-taken : length (take (b .answered) (answers ++ drop most buffer)) ≡ b .answered
+  lent-taken = length-take-le (b .answered) (answers ++ drop most buffer) lent-fits
+
+  pub runs : (k : ℕ) (out : List ℕ) (at : ℕ) (out′ : List ℕ) (written : ℕ) → 1 ≤ most → k + most ≤ 18446744073709551615
+      → Puts out at (answer-lines k (take (b .answered) (answers ++ drop most buffer))) out′ written
+      → Runs hs ms k q out at out′ (record { answered = b .answered; read = b .read; written = written; follows = eqb (b .answered) most })
+  runs k out at out′ written some few puts =
+      let same : take (b .answered) (answers ++ drop most buffer) ≡ take (b .answered) answers = take-append-le (b .answered) answers (drop most buffer) lent-long in
+      let long : length (take (b .answered) answers) ≡ b .answered = length-take-le (b .answered) answers lent-long in
+      record {
+        lines = answer-lines k (take (b .answered) answers);
+        puts = rw same at puts;
+        within = batched-within hs ms q (b .read) (take (b .answered) answers) (p .written);
+        counted = omega (arith, lent-few);
+        completes = λ later rest t. batched-completes hs ms q (b .read) (take (b .answered) answers) (p .written) k later rest (rw long t);
+        goes = λ h.
+            let all : b .answered ≡ most = eqb-true (b .answered) most h in
+            batched-some hs ms q (b .read) (take (b .answered) answers) (p .written) (rw long (omega arith));
+        ends = λ h. by-reason (eqb-false (b .answered) most h) (p .stopped);
+      }
+    where
+      by-reason : (b .answered ≡ most → ⊥) → (b .answered ≡ length (take most buffer)) ⊎ Broken (drop (b .read) q) → Broken (drop (b .read) q)
+      by-reason other (inl e) = absurd (other (e ∙ lent-size))
+      by-reason other (inr h) = h
 
 module _ (hs ms : List ℕ) (k : ℕ) (q out : List ℕ) where
   -- nothing is read yet
   pub advanced-none : Advanced hs ms k q out k 0 0 out
   advanced-none = record { lines = []; puts = puts-none out 0 (omega arith); within = omega arith; completes = λ more rest t. t }
 
-  -- what is written is within the buffer
-  pub room : (k′ read written : ℕ) (out′ : List ℕ) → Advanced hs ms k q out k′ read written out′ → written ≤ length out′
-  room k′ read written out′ a = rw (puts-length out (a .lines) out′ 0 written (a .puts)) (a .puts .fits)
+  module _ (k′ read written : ℕ) (out′ : List ℕ) (a : Advanced hs ms k q out k′ read written out′) where
+    -- what is written is within the buffer
+    pub room : written ≤ length out′
+    room = rw (puts-length out (a .lines) out′ 0 written (a .puts)) (a .puts .fits)
 
-  pub room-left : (k′ read written : ℕ) (out′ : List ℕ) → Advanced hs ms k q out k′ read written out′ → 64 ≤ length out′ - written
-      → written + 64 ≤ length out′
-  room-left k′ read written out′ a h = omega (arith, room k′ read written out′ a, h)
+    pub room-left : 64 ≤ length out′ - written → written + 64 ≤ length out′
+    room-left h = omega (arith, room, h)
 
-  -- one more question
-  pub advanced-next : (k′ read written end links : ℕ) (out′ out″ : List ℕ) → Advanced hs ms k q out k′ read written out′
-      → links ≡ links-of (drop read q) → 3 + links ≤ length (drop read q) → Answers hs ms k′ (drop read q) links out′ written out″ end
-      → Advanced hs ms k q out (k′ + 1) (read + (3 + links)) end out″
-  advanced-next k′ read written end links out′ out″ a e long s =
-      let size : length (drop read q) ≡ length q - read = length-drop read q in
-      record {
-        lines = a .lines ++ answer-line k′ (s .answer);
-        puts = puts-then (a .puts) (s .puts);
-        within = omega (arith, a .within, size, long);
-        completes = λ more rest t.
-            let front = rw (← e) at (next-whole (drop read q) more (rw (← e) long)) in
-            let one : k′ + 1 ≡ suc k′ = omega arith in
-            let later = rw (one, ← drop-drop (3 + links) read q) at t in
-            rw (append-assoc (a .lines) (answer-line k′ (s .answer)) rest)
-            (a .completes more (answer-line k′ (s .answer) ++ rest)
-            (answered k′ (drop read q ++ more) _ _ _ (s .answer) rest front (s .answered) later));
-      }
+    -- one more run
+    module _ (out″ : List ℕ) (r : Run) (lent : Runs hs ms k′ (take (length q - read) (drop read q)) out′ written out″ r) where
+      run : Runs hs ms k′ (drop read q) out′ written out″ r
+      run =
+          let all : length (drop read q) ≤ length q - read = omega (arith, length-drop read q) in
+          rw (take-all (length q - read) (drop read q) all) at lent
 
-  -- why the loop ends
-  pub stopped-full : (k′ read written : ℕ) (out′ : List ℕ) → Advanced hs ms k q out k′ read written out′ → length out′ - written < 64
-      → Advances hs ms k q out out′ (record { number = k′; read = read; written = written })
-  stopped-full k′ read written out′ a h =
-      let same : length out′ ≡ length out = puts-length out (a .lines) out′ 0 written (a .puts) in
-      record { advanced = a; stopped = full (omega (arith, same, h)) }
+      pub run-within : read + r .read ≤ length q
+      run-within = omega (arith, a .within, run .within, length-drop read q)
 
-  pub stopped-number : (k′ read written : ℕ) (out′ : List ℕ) → Advanced hs ms k q out k′ read written out′ → 18446744073709551615 ≤ k′
-      → Advances hs ms k q out out′ (record { number = k′; read = read; written = written })
-  stopped-number k′ read written out′ a h = record { advanced = a; stopped = counted-out h }
+      pub advanced-run : Advanced hs ms k q out (k′ + r .answered) (read + r .read) (r .written) out″
+      advanced-run =
+          record {
+            lines = a .lines ++ run .lines;
+            puts = puts-then (a .puts) (run .puts);
+            within = run-within;
+            completes = λ more rest t.
+                rw (append-assoc (a .lines) (run .lines) rest)
+                (a .completes more (run .lines ++ rest) (run .completes more rest (rw (drop-drop (r .read) read q) t)));
+          }
 
-  pub stopped-found : (k′ read written : ℕ) (out′ : List ℕ) → Advanced hs ms k q out k′ read written out′ → (r : Question) → Found (drop read q) r
-      → ((links : ℕ) → r ≡ Whole links → ⊥) → Advances hs ms k q out out′ (record { number = k′; read = read; written = written })
-  stopped-found k′ read written out′ a _ (found-nothing e) other = record { advanced = a; stopped = nothing-left e }
-  stopped-found k′ read written out′ a _ (found-part e) other = record { advanced = a; stopped = part-left e }
-  stopped-found k′ read written out′ a _ (found-whole links e long) other = absurd (other links refl)
+      -- the run met no whole question more
+      pub stopped-broken : r .follows ≡ false → Advances hs ms k q out out″ (record { number = k′ + r .answered; read = read + r .read; written = r .written })
+      stopped-broken h = record { advanced = advanced-run; stopped = by-length (eq-or-ne (length (drop (read + r .read) q)) 0) }
+        where
+          broken : Broken (drop (read + r .read) q)
+          broken = rw (drop-drop (r .read) read q) at (run .ends h)
+
+          by-length : (length (drop (read + r .read) q) ≡ 0) ⊎ (length (drop (read + r .read) q) ≡ 0 → ⊥)
+              → Stopped q out (record { number = k′ + r .answered; read = read + r .read; written = r .written })
+          by-length (inl e) = nothing-left (next-nothing (drop (read + r .read) q) e)
+          by-length (inr e) = part-left (next-part (drop (read + r .read) q) (omega arith) broken)
+
+    -- why the loop ends
+    pub stopped-full : length out′ - written < 64 → Advances hs ms k q out out′ (record { number = k′; read = read; written = written })
+    stopped-full h =
+        let same : length out′ ≡ length out = puts-length out (a .lines) out′ 0 written (a .puts) in
+        record { advanced = a; stopped = full (omega (arith, same, h)) }
+
+    pub stopped-number : 18446744073709551615 ≤ k′ → Advances hs ms k q out out′ (record { number = k′; read = read; written = written })
+    stopped-number h = record { advanced = a; stopped = counted-out h }
 
 -- the same tables under other names
 pub advances-as : {hs ms hs′ ms′ q out out′ : List ℕ} {k : ℕ} {p : Progress} → hs ≡ hs′ → ms ≡ ms′ → Advances hs ms k q out out′ p

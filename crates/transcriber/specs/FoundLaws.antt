@@ -1,9 +1,9 @@
 -- What each test of the search for a question settles, and what the last line says by it.
-use mathlib.Core.List.{List, [], append-nil}
+use mathlib.Core.List.{List, [], _∷_, append-nil}
 use mathlib.Core.Path.{_≡_, refl, sym, ap, ap₂, _∙_}
 use Prim.Native.Nat.{ℕ, _+_, _-_, _*_, _<_, _≤_}
 use native.Mathlib.Omega.{arith}
-use lib.ListN.{length, getD, drop, length-drop, drop-of-length-le}
+use lib.ListN.{length, getD, drop, length-drop}
 use lib.Seq.{getD-drop}
 use Rattle.transcripts.specs.Lines.{cut-line}
 use Rattle.transcripts.specs.Transcript.{next}
@@ -17,9 +17,10 @@ use Rattle.transcriber.specs.Puts.{Puts}
 use Rattle.transcriber.specs.PutsLaws.{puts-as}
 use Rattle.transcriber.specs.Said.{ending}
 
-next-nothing : (s : List ℕ) → s ≡ [] → next s ≡ nothing
+pub next-nothing : (s : List ℕ) → length s ≡ 0 → next s ≡ nothing
 unfolding next
-next-nothing s e = rw e refl
+next-nothing [] e = refl
+next-nothing (x ∷ s) e = absurd (let f : ⊥ = omega (arith, e) in f)
 
 module _ (q : List ℕ) (at : ℕ) (h : at ≤ length q) where
   left : length (drop at q) ≡ length q - at
@@ -33,7 +34,7 @@ module _ (q : List ℕ) (at : ℕ) (h : at ≤ length q) where
   same-links = ap₂ (λ (a b : ℕ). a + 256 * b) (sym (getD-drop at q 1 0)) (sym (getD-drop at q 2 0))
 
   pub at-nothing : length q - at ≡ 0 → Found (drop at q) Nothing
-  at-nothing e = let all : length q ≤ at = omega (arith, h, e) in found-nothing (next-nothing (drop at q) (drop-of-length-le q all))
+  at-nothing e = found-nothing (next-nothing (drop at q) (omega (arith, left, e)))
 
   pub at-short : (length q - at ≡ 0 → ⊥) → length q - at < 3 → Found (drop at q) Part
   at-short some short =

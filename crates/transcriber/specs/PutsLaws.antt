@@ -1,14 +1,16 @@
 -- Texts put one after another are their concatenation.
+use mathlib.Core.Bool.{Bool}
 use mathlib.Core.List.{List, [], _∷_, _++_, append-assoc}
 use mathlib.Core.Path.{_≡_, refl, sym, ap, ap₂, _∙_, subst}
-use Prim.Native.Nat.{ℕ, suc, _+_, _<_, _≤_}
+use Prim.Native.Nat.{ℕ, zero, suc, _+_, _<_, _≤_}
 use native.Mathlib.Omega.{arith}
 use lib.ListN.{length, getD, set, take-append-drop, take, drop, length-append, length-drop}
 use lib.Seq.{take-all, set-split, take-suc, length-take-le, take-at, drop-at, drop-drop}
+use Rattle.format.specs.Result.{Result}
+use Rattle.format.specs.Result.Result.{refused}
 use Rattle.io.specs.Counts.{Counts}
 use Rattle.transcripts.specs.Lines.{first-line, answer-line}
-use Rattle.answerer.specs.declared.Answer.{Answer}
-use Rattle.answerer.specs.Answer.{says}
+use Rattle.answerer.specs.Batch.{told}
 use Rattle.builder.specs.declared.Outcome.{Outcome}
 use Rattle.transcriber.specs.Puts.{Puts}
 use Rattle.transcriber.specs.Said.{outcome-says}
@@ -102,9 +104,14 @@ pub puts-within : {out x out′ : List ℕ} {at end most : ℕ} → Puts out at 
 puts-within {out} {x} {out′} {at} {end} {most} p h = let e : end ≡ at + length x = p .ends in omega arith
 
 -- a line by what is known of the answer or of the outcome
-pub puts-answer : {out text out′ : List ℕ} {at end : ℕ} (k : ℕ) (a v : Answer) → a ≡ v → Puts out at text out′ end → text ≡ answer-line k (says v)
-    → Puts out at (answer-line k (says a)) out′ end
-puts-answer k a v e p f = puts-as p (f ∙ ap (λ (x : Answer). answer-line k (says x)) (sym e))
+pub puts-told : {out text out′ : List ℕ} {at end : ℕ} (k b : ℕ) (a : Result Bool) → told b ≡ a → Puts out at text out′ end → text ≡ answer-line k a
+    → Puts out at (answer-line k (told b)) out′ end
+puts-told k b a e p f = puts-as p (f ∙ ap (λ (x : Result Bool). answer-line k x) (sym e))
+
+pub told-refused : (b : ℕ) → (b ≡ 0 → ⊥) → (b ≡ 1 → ⊥) → told b ≡ refused b 0
+told-refused zero e f = absurd (e refl)
+told-refused (suc zero) e f = absurd (f refl)
+told-refused (suc (suc b)) e f = refl
 
 pub puts-outcome : {out text out′ : List ℕ} {at end : ℕ} (a v : Outcome) → a ≡ v → Puts out at text out′ end → text ≡ first-line (outcome-says v)
     → Puts out at (first-line (outcome-says a)) out′ end

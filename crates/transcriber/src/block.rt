@@ -1,12 +1,10 @@
 // Blocks of input: the whole questions at the front of one are answered, and what is left is kept for the next.
 ghost use mathlib.Core.Path.{_≡_};
-ghost use Prim.Native.Nat.{_+_, _*_, _≤_};
-ghost use lib.ListN.{length, take, drop};
+ghost use Prim.Native.Nat.{_+_, _*_, _<_, _≤_};
+ghost use lib.ListN.{length, take};
 ghost use Rattle.transcriber.specs.Puts.{Puts};
-ghost use Rattle.transcriber.specs.Advances.{Advances, Answers, kept};
-use crate::line::put_answer;
-use crate::question::Question;
-use crate::question::find;
+ghost use Rattle.transcriber.specs.Advances.{Advances, Runs, kept};
+use crate::line::put_answers;
 use builder::Counts;
 
 // How far the questions are answered: the number of the next one, and how many bytes are read and written.
@@ -57,7 +55,7 @@ fn triples(moves: &[u16], count: usize) -> &[u16]
     &moves[..3 * count]
 }
 
-// Answers the whole questions at the front of the input by the tables.
+// Answers the whole questions at the front of the input by the tables, in runs.
 fn answer_each(heads: &[u16], moves: &[u16], number: u64, input: &[u8], out: &mut [u8]) -> Progress
     ensures { λ r. ⌜ Advances (now (heads .entry)) (now (moves .entry)) number (now (input .entry)) (now (out .entry)) (now (out .exit)) r ⌝ }
 {
@@ -65,13 +63,13 @@ fn answer_each(heads: &[u16], moves: &[u16], number: u64, input: &[u8], out: &mu
     let mut read = 0;
     let mut written = 0;
     while next < u64::MAX && 64 <= out.len() - written {
-        let found = find(input, read);
-        let Question::Whole(links) = found else {
+        let run = answer_run(heads, moves, next, &input[read..], out, written);
+        next += run.answered as u64;
+        read += run.read;
+        written = run.written;
+        if !run.follows {
             break;
-        };
-        written = answer(heads, moves, next, input, read, links, out, written);
-        read += 3 + links;
-        next += 1;
+        }
     }
     Progress {
         number: next,
@@ -80,24 +78,52 @@ fn answer_each(heads: &[u16], moves: &[u16], number: u64, input: &[u8], out: &mu
     }
 }
 
-// Answers the whole question at a place of the input, with a line at a place of the buffer; returns the place after it.
-fn answer(
+// How far a run goes: how many questions it answers, how many bytes of the input they take, where their lines end, and whether a whole question
+// may follow.
+struct Run {
+    answered: usize,
+    read: usize,
+    written: usize,
+    follows: bool,
+}
+
+// Answers whole questions at the front of the input, as many as surely have room for their lines from a place of the buffer on.
+fn answer_run(
     heads: &[u16],
     moves: &[u16],
     number: u64,
     input: &[u8],
-    read: usize,
-    links: usize,
     out: &mut [u8],
     written: usize,
-) -> usize
-    requires { ⌜ read + 3 + links ≤ length (now input) ⌝ }
+) -> Run
+    requires { ⌜ number < 18446744073709551615 ⌝ }
     requires { ⌜ written + 64 ≤ length (now out) ⌝ }
-    ensures { λ r. ⌜ Answers (now (heads .entry)) (now (moves .entry)) number (drop read (now (input .entry))) links (now (out .entry)) written (now (out .exit)) r ⌝ }
+    ensures { λ r. ⌜ Runs (now (heads .entry)) (now (moves .entry)) number (now (input .entry)) (now (out .entry)) written (now (out .exit)) r ⌝ }
 {
-    let chain = &input[read + 3..read + 3 + links];
-    let said = answerer::ask(heads, moves, input[read], chain);
-    put_answer(out, written, number, said)
+    let mut answers = [0u8; 1024];
+    let most = lines_in(out.len() - written, number);
+    let batch = answerer::ask_all(heads, moves, input, &mut answers[..most]);
+    let answered = batch.answered;
+    Run {
+        answered: answered,
+        read: batch.read,
+        written: put_answers(out, written, number, &answers[..answered]),
+        follows: answered == most,
+    }
+}
+
+// How many questions to answer where there is so much room for lines and this is the number of the next: at most 1,024, and no more than numbers.
+fn lines_in(room: usize, number: u64) -> usize
+    requires { ⌜ (64 ≤ room) × (number < 18446744073709551615) ⌝ }
+    ensures { λ r. ⌜ (1 ≤ r) × (r ≤ 1024) × (64 * r ≤ room) × (number + r ≤ 18446744073709551615) ⌝ }
+{
+    if u64::MAX - number < 1024 {
+        return 1;
+    }
+    if 65536 <= room {
+        return 1024;
+    }
+    room / 64
 }
 
 // Moves the bytes from one place up to another to the front of the buffer, and returns how many there are; none where there are no such places.

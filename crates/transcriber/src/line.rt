@@ -1,16 +1,15 @@
 // The lines. Each has at most 64 bytes: two numbers of at most 20 digits, and words.
 ghost use mathlib.Core.List.{_++_};
-ghost use Prim.Native.Nat.{_+_, _≤_};
+ghost use Prim.Native.Nat.{_+_, _*_, _≤_};
 ghost use lib.ListN.{length};
-ghost use Rattle.answerer.specs.Answer.{says};
+ghost use Rattle.answerer.specs.Batch.{told};
 ghost use Rattle.transcripts.specs.Lines.{decimal, space, end-line, refused-word, first-line, answer-line, cut-line};
 ghost use Rattle.transcriber.specs.Puts.{Puts};
-ghost use Rattle.transcriber.specs.Said.{outcome-says, ending};
+ghost use Rattle.transcriber.specs.Said.{outcome-says, ending, answer-lines};
 use crate::question::Question;
 use crate::question::find;
 use crate::text::put;
 use crate::text::put_number;
-use answerer::Answer;
 use builder::Outcome;
 
 // Puts the first line at the front of the buffer: the counts of the tables built, or the refusal; returns its length.
@@ -46,16 +45,32 @@ fn put_pair(out: &mut [u8], word: &[u8], first: u64, second: u64) -> usize
     put(out, last, b"\n")
 }
 
-// Puts the line of a question at a place; returns the place after it.
-pub(crate) fn put_answer(out: &mut [u8], at: usize, number: u64, answer: Answer) -> usize
+// Puts the lines of questions that are answered by these bytes, numbered from `number` on, at a place; returns the place after them.
+pub(crate) fn put_answers(out: &mut [u8], at: usize, number: u64, answers: &[u8]) -> usize
+    requires { ⌜ at + 64 * length (now answers) ≤ length (now out) ⌝ }
+    requires { ⌜ number + length (now answers) ≤ 18446744073709551615 ⌝ }
+    ensures { λ r. ⌜ Puts (now (out .entry)) at (answer-lines number (now (answers .entry))) (now (out .exit)) r ⌝ }
+{
+    let mut end = at;
+    let mut i = 0;
+    while i < answers.len() {
+        end = put_answer(out, end, number + i as u64, answers[i]);
+        i += 1;
+    }
+    end
+}
+
+// Puts the line of a question that is answered by this byte at a place; returns the place after it.
+fn put_answer(out: &mut [u8], at: usize, number: u64, answer: u8) -> usize
     requires { ⌜ at + 64 ≤ length (now out) ⌝ }
-    ensures { λ r. ⌜ Puts (now (out .entry)) at (answer-line number (says answer)) (now (out .exit)) r ⌝ }
+    ensures { λ r. ⌜ Puts (now (out .entry)) at (answer-line number (told answer)) (now (out .exit)) r ⌝ }
+    ensures { λ r. ⌜ r ≤ at + 64 ⌝ }
 {
     let start = put_number(out, at, number);
     match answer {
-        Answer::Yes => put(out, start, b" yes\n"),
-        Answer::No => put(out, start, b" no\n"),
-        Answer::Refused(refusal) => put_refusal(out, start, questions::cause(refusal) as u64),
+        0 => put(out, start, b" no\n"),
+        1 => put(out, start, b" yes\n"),
+        _ => put_refusal(out, start, answer as u64),
     }
 }
 
@@ -63,6 +78,7 @@ pub(crate) fn put_answer(out: &mut [u8], at: usize, number: u64, answer: Answer)
 fn put_refusal(out: &mut [u8], at: usize, cause: u64) -> usize
     requires { ⌜ at + 30 ≤ length (now out) ⌝ }
     ensures { λ r. ⌜ Puts (now (out .entry)) at (refused-word ++ decimal cause ++ end-line) (now (out .exit)) r ⌝ }
+    ensures { λ r. ⌜ r ≤ at + 30 ⌝ }
 {
     let start = put(out, at, b" refused ");
     let end = put_number(out, start, cause);

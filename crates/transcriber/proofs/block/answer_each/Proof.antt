@@ -1,12 +1,12 @@
--- `answer_each` meets its contract: each turn completes the lines by one question, and each way out says why it stops.
+-- `answer_each` meets its contract: each run completes the lines by its questions, and each way out says why it stops.
 use borrow.Author.Needs.{needs}
+use borrow.Author.Tests.{not-true, not-false}
 use native.Mathlib.Omega.{arith}
-use mathlib.Core.Logic.{⊎-elim}
 use Prim.Native.Nat.{_-_}
 use lib.ListN.{length}
 use Rattle.transcriber.specs.PutsLaws.{puts-length}
 use Rattle.transcriber.specs.Advances.{Advanced}
-use Rattle.transcriber.specs.AdvancesLaws.{whole-found, whole-fits, room, room-left, advanced-none, advanced-next, stopped-full, stopped-number, stopped-found}
+use Rattle.transcriber.specs.AdvancesLaws.{room, room-left, advanced-none, run-within, advanced-run, stopped-broken, stopped-full, stopped-number}
 use Rattle.transcriber.proofs.block.answer_each.Statement.{statement}
 use Rattle.transcriber.proofs.block.answer_each.Tie as tie
 
@@ -22,29 +22,29 @@ loop-holds c = advanced-none _ _ _ _ _
 sub-if1 : tie.Need-sub-if1 Inv-loop μ-loop
 sub-if1 c = room _ _ _ _ _ _ _ _ _ (c .before .loop .inv)
 
-find-requires : tie.Need-find-requires Inv-loop μ-loop
-find-requires c κs = c .before .before .loop .inv .within
+sub-answer-run : tie.Need-sub-answer-run Inv-loop μ-loop
+sub-answer-run c = omega (arith, c .before .before .loop .inv .within)
 
-enum-known-found : tie.Need-enum-known-found Inv-loop μ-loop
-enum-known-found c = search needs
+part-answer-run-start : tie.Need-part-answer-run-start Inv-loop μ-loop
+part-answer-run-start c = omega (arith, c .before .before .loop .inv .within)
 
-answer-requires : tie.Need-answer-requires Inv-loop μ-loop
-answer-requires c κs = (whole-fits _ _ _ _ (c .before .before .before .before .before .before .before .loop .inv .within) (c .before .before .before .before .find .ensures) (c .before .before .found .given .1), room-left _ _ _ _ _ _ _ _ _ (c .before .before .before .before .before .before .before .loop .inv) (search needs))
+part-answer-run-end : tie.Need-part-answer-run-end Inv-loop μ-loop
+part-answer-run-end c = omega (arith, c .before .before .loop .inv .within)
 
-add-read : tie.Need-add-read Inv-loop μ-loop
-add-read c = omega (arith, whole-fits _ _ _ _ (c .before .before .before .before .before .before .before .before .before .before .loop .inv .within) (c .before .before .before .before .before .before .before .find .ensures) (c .before .before .before .before .before .found .given .1))
-
-add-read-2 : tie.Need-add-read-2 Inv-loop μ-loop
-add-read-2 c = omega (arith, whole-fits _ _ _ _ (c .before .before .before .before .before .before .before .before .before .before .loop .inv .within) (c .before .before .before .before .before .before .before .find .ensures) (c .before .before .before .before .before .found .given .1))
+answer-run-requires : tie.Need-answer-run-requires Inv-loop μ-loop
+answer-run-requires c κs = (search needs, room-left _ _ _ _ _ _ _ _ _ (c .before .before .before .before .loop .inv) (search needs))
 
 add-next : tie.Need-add-next Inv-loop μ-loop
-add-next c = search needs
+add-next c = omega (arith, c .before .before .answer-run .ensures .counted)
+
+add-read : tie.Need-add-read Inv-loop μ-loop
+add-read c = omega (arith, run-within _ _ _ _ _ _ _ _ _ (c .before .before .before .before .before .before .before .before .loop .inv) _ _ (c .before .before .before .answer-run .ensures), c .before .before .before .before .before .before .before .before .before .before .before .before .before .good)
 
 loop-less : tie.Need-loop-less Inv-loop μ-loop
-loop-less c = omega (arith, whole-fits _ _ _ _ (c .before .before .before .before .before .before .before .before .before .before .loop .inv .within) (c .before .before .before .before .before .before .before .find .ensures) (c .before .before .before .before .before .found .given .1))
+loop-less c = omega (arith, run-within _ _ _ _ _ _ _ _ _ (c .before .before .before .before .before .before .before .before .before .before .loop .inv) _ _ (c .before .before .before .before .before .answer-run .ensures), c .before .before .before .before .before .answer-run .ensures .goes (not-false _ (c .if2 .left)))
 
 loop-again : tie.Need-loop-again Inv-loop μ-loop
-loop-again c = let f = whole-found _ _ _ (c .before .before .before .before .before .before .before .find .ensures) (c .before .before .before .before .before .found .given .1) in advanced-next _ _ _ _ _ _ _ _ _ _ _ _ (c .before .before .before .before .before .before .before .before .before .before .loop .inv) (f .0) (f .1) (c .before .before .answer .ensures)
+loop-again c = advanced-run _ _ _ _ _ _ _ _ _ (c .before .before .before .before .before .before .before .before .before .before .loop .inv) _ _ (c .before .before .before .before .before .answer-run .ensures)
 
 same-length : tie.Need-same-length Inv-loop μ-loop
 same-length c = puts-length _ _ _ _ _ (c .before .before .loop .inv .puts)
@@ -59,10 +59,10 @@ returns-2 : tie.Need-returns-2 Inv-loop μ-loop
 returns-2 c = stopped-number _ _ _ _ _ _ _ _ _ (c .before .loop .inv) (search needs)
 
 same-length-3 : tie.Need-same-length-3 Inv-loop μ-loop
-same-length-3 c = puts-length _ _ _ _ _ (c .before .before .before .before .loop .inv .puts)
+same-length-3 c = puts-length _ _ _ _ _ (advanced-run _ _ _ _ _ _ _ _ _ (c .before .before .before .before .before .before .before .before .before .before .loop .inv) _ _ (c .before .before .before .before .before .answer-run .ensures) .puts)
 
 returns-3 : tie.Need-returns-3 Inv-loop μ-loop
-returns-3 c = stopped-found _ _ _ _ _ _ _ _ _ (c .before .before .before .before .loop .inv) _ (c .before .find .ensures) (λ links e. ⊎-elim (λ z. omega arith) (λ z. omega arith) (rw e at (c .match .keys2)))
+returns-3 c = stopped-broken _ _ _ _ _ _ _ _ _ (c .before .before .before .before .before .before .before .before .before .before .loop .inv) _ _ (c .before .before .before .before .before .answer-run .ensures) (not-true _ (c .if2 .taken))
 
 pub answer-each-spec : {M : Type 1} → statement M
 answer-each-spec =
@@ -72,12 +72,12 @@ answer-each-spec =
     μ-loop
     loop-holds
     sub-if1
-    find-requires
-    enum-known-found
-    answer-requires
-    add-read
-    add-read-2
+    sub-answer-run
+    part-answer-run-start
+    part-answer-run-end
+    answer-run-requires
     add-next
+    add-read
     loop-less
     loop-again
     same-length
