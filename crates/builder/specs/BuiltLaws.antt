@@ -1,12 +1,12 @@
--- From what was laid aside and then copied to what a build promises.
+-- From what was counted and then laid to what a build promises.
 use mathlib.Core.List.{List, _++_}
 use mathlib.Core.Logic.{_⊎_, inl, inr}
-use mathlib.Core.Path.{_≡_, refl, sym, ap, _∙_, subst}
+use mathlib.Core.Path.{_≡_, refl, ap, _∙_, subst}
 use Prim.Native.Nat.{ℕ, _+_, _*_, _<_, _≤_}
 use native.Mathlib.Nat.{zero-add}
 use native.Mathlib.Omega.{arith}
-use lib.ListN.{length, take, drop}
-use lib.Seq.{sets, sets-eq, paste, take-at}
+use lib.ListN.{length, drop}
+use lib.Seq.{sets, sets-eq}
 use Rattle.roles.specs.Tests.{lt-or-le}
 use Rattle.roles.specs.Rule.{Book}
 use Rattle.tables.specs.Tables.{numbers}
@@ -35,10 +35,6 @@ builds-accepted s h m h′ m′ b c e k p q = record { answer = rw (e, k) refl; 
 -- numbers stored from the front on are the new numbers over the old
 sets-over : (new old : List ℕ) → length new ≤ length old → sets old 0 new ≡ over new old
 sets-over new old h = sets-eq new old 0 (rw zero-add h) ∙ ap (λ (k : ℕ). new ++ drop k old) (zero-add (length new))
-
--- numbers copied to the front are the new numbers over the old
-pasted : (new old from : List ℕ) (n : ℕ) → take n from ≡ new → length new ≡ n → paste old 0 from n ≡ over new old
-pasted new old from n e size = rw (e, zero-add) (ap (λ (k : ℕ). new ++ drop k old) (sym size))
 
 module _ (s ix : List ℕ) (names : ℕ) (p : Prepared s ix names) where
   few : states-of (p .book) ≤ 2048 → count-of (p .book) ≤ 5120
@@ -69,36 +65,27 @@ module _ (s ix : List ℕ) (names : ℕ) (p : Prepared s ix names) where
     pub same-states : r .state ≤ 2048 → r .state ≡ states-of (p .book)
     same-states h = own .within (fits h)
 
-    module _ (wide : length m ≡ 15360) (small : r .state ≤ 2048) where
-      laid : (r .count ≡ count-of (p .book)) × (m′ ≡ sets m 0 (moves-of (p .book))) × (h′ ≡ sets h 0 (heads-of (p .book)))
-      laid = own .exact (fits small) (omega (arith, few (fits small))) (omega (arith, few (fits small), wide))
+    module _ (small : r .state ≤ 2048) where
+      below : count-of (p .book) < 60000
+      below = omega (arith, few (fits small))
 
       pub same-count : r .count ≡ count-of (p .book)
-      same-count = laid .0
+      same-count = own .count (fits small) below
 
-      -- the first numbers are those of the tables
-      first-heads : p .book .names ≤ length h → take names h′ ≡ heads-of (p .book)
-      first-heads l =
-          let size = length-roots (p .book .rules) (p .book .names) (p .book .names) 0 0 in
-          ap (take names) (laid .2 ∙ sets-over (heads-of (p .book)) h (rw size l))
-          ∙ take-at (heads-of (p .book)) _ names (size ∙ sym (p .same))
-
-      first-moves : 3 * count-of (p .book) ≤ length m → take (3 * r .count) m′ ≡ moves-of (p .book)
-      first-moves l =
-          ap (take (3 * r .count)) (laid .1 ∙ sets-over (moves-of (p .book)) m (rw length-numbers l))
-          ∙ take-at (moves-of (p .book)) _ (3 * r .count) (length-numbers _ ∙ ap (λ (k : ℕ). 3 * k) (sym same-count))
-
-    -- what was laid aside and then copied is what a build promises
-    pub builds-copied : length h ≡ 64 → length m ≡ 15360 → (g n : List ℕ) → r .state ≤ 2048 → r .count ≤ 5120 → names ≤ length g → 3 * r .count ≤ length n
-        → Builds s g n (paste g 0 h′ names) (paste n 0 m′ (3 * r .count)) (Built (record { names = names; states = r .state; transitions = r .count }))
-    builds-copied size-heads size-moves g n small few long-heads long-moves =
-        let count : r .count ≡ count-of (p .book) = same-count size-moves small in
+  -- what was counted first and then laid in the lent tables is what a build promises
+  module _ (r : Place) (h h′ m m′ : List ℕ) (w : Roots (p .book .rules) (p .book .names) names r h h′ m m′)
+      (q : Place) (g g′ n n′ : List ℕ) (v : Roots (p .book .rules) (p .book .names) names q g g′ n n′) where
+    pub builds-laid : r .state ≤ 2048 → r .count ≤ 5120 → names ≤ length g → 3 * r .count ≤ length n
+        → Builds s g n g′ n′ (Built (record { names = names; states = r .state; transitions = r .count }))
+    builds-laid small short long-heads long-moves =
+        let count : r .count ≡ count-of (p .book) = same-count r h h′ m m′ w small in
         let enough-heads : p .book .names ≤ length g = rw (← p .same) long-heads in
         let enough-moves : 3 * count-of (p .book) ≤ length n = rw (← count) long-moves in
-        builds-accepted s g n (paste g 0 h′ names) (paste n 0 m′ (3 * r .count)) (p .book) _
-        (built-accepted s (length g) (length n) (p .book) (p .ordered) (fits small) (rw (← count) few) enough-heads enough-moves)
-        (rw (p .same, same-states small, count) refl)
-        (pasted (heads-of (p .book)) g h′ names (first-heads size-moves small (omega (arith, p .same, p .few, size-heads)))
-        (length-roots (p .book .rules) (p .book .names) (p .book .names) 0 0 ∙ sym (p .same)))
-        (pasted (moves-of (p .book)) n m′ (3 * r .count) (first-moves size-moves small (omega (arith, count, few, size-moves)))
-        (length-numbers _ ∙ ap (λ (k : ℕ). 3 * k) (sym count)))
+        let size = length-roots (p .book .rules) (p .book .names) (p .book .names) 0 0 in
+        let whole : states-of (p .book) ≤ 2048 = fits r h h′ m m′ w small in
+        builds-accepted s g n g′ n′ (p .book) _
+        (built-accepted s (length g) (length n) (p .book) (p .ordered) whole (rw (← count) short) enough-heads enough-moves)
+        (rw (p .same, same-states r h h′ m m′ w small, count) refl)
+        (own q g g′ n n′ v .places whole ∙ sets-over (heads-of (p .book)) g (rw size enough-heads))
+        (own q g g′ n n′ v .exact whole (below r h h′ m m′ w small) enough-moves
+        ∙ sets-over (moves-of (p .book)) n (rw length-numbers enough-moves))

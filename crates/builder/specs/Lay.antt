@@ -4,9 +4,9 @@ use mathlib.Core.List.{List}
 use mathlib.Core.Path.{_≡_}
 use Prim.Native.Nat.{ℕ, _*_, _<_, _≤_}
 use lib.ListN.{length, getD}
+use lib.Seq.{sets}
 use Rattle.roles.specs.Role.{Chain, name, inv-chain}
 use Rattle.roles.specs.Rule.{Rule}
-use lib.Seq.{sets}
 use Rattle.tables.specs.Tables.{Transition, numbers, states-from, transitions-from, roots-from}
 use Rattle.layout.specs.Laid.{Laid}
 use Rattle.layout.specs.Indexed.{Indexed, level-in}
@@ -37,7 +37,8 @@ Inner-below index level w = (k : ℕ) → k < length w → (getD w k 0 < 128) ×
 pub record Roots (ρs : List Rule) (fuel names : ℕ) (r : Place) (heads heads′ moves moves′ : List ℕ) : Type 0 where
   pub within : states-from ρs fuel names 0 ≤ 2048 → r .state ≡ states-from ρs fuel names 0
   pub over : 2048 < states-from ρs fuel names 0 → 2048 < r .state
-  pub exact : states-from ρs fuel names 0 ≤ 2048 → length (transitions-from ρs fuel names 0 0) ≤ 60000
-      → 3 * length (transitions-from ρs fuel names 0 0) ≤ length moves
-      → (r .count ≡ length (transitions-from ρs fuel names 0 0)) × (moves′ ≡ sets moves 0 (numbers (transitions-from ρs fuel names 0 0)))
-      × (heads′ ≡ sets heads 0 (roots-from ρs fuel names 0 0))
+  pub count : states-from ρs fuel names 0 ≤ 2048 → length (transitions-from ρs fuel names 0 0) < 60000
+      → r .count ≡ length (transitions-from ρs fuel names 0 0)
+  pub exact : states-from ρs fuel names 0 ≤ 2048 → length (transitions-from ρs fuel names 0 0) < 60000
+      → 3 * length (transitions-from ρs fuel names 0 0) ≤ length moves → moves′ ≡ sets moves 0 (numbers (transitions-from ρs fuel names 0 0))
+  pub places : states-from ρs fuel names 0 ≤ 2048 → heads′ ≡ sets heads 0 (roots-from ρs fuel names 0 0)

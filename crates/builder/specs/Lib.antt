@@ -1,12 +1,15 @@
 pub mod Lay
+pub mod Memo
+pub mod ShiftLaws
 pub mod LayLaws
 pub mod RowLaws
 pub mod RuleLaws
 pub mod RowsLaws
 pub mod FragmentLaws
+pub mod MemoLaws
+pub mod AgainLaws
 pub mod RootsLaws
 pub mod Built
 pub mod BuiltLaws
 pub mod BuildLaws
 pub mod WrittenLaws
-pub mod CopyLaws

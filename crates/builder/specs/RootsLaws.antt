@@ -20,9 +20,9 @@ roots-all ρs fuel names r h h′ m m′ a =
     record {
       within = λ l. rw zero-add at (a .laid .within (rw zero-add l));
       over = λ l. a .laid .over (rw zero-add l);
-      exact = λ l g f.
-          let e = a .laid .exact (rw zero-add l) (rw zero-add g) (rw zero-add f) in
-          (rw zero-add at (e .0), e .1, a .heads (rw zero-add l));
+      count = λ l g. rw zero-add at (a .laid .count (rw zero-add l) (rw zero-add g));
+      exact = λ l g f. a .laid .exact (rw zero-add l) (rw zero-add g) (rw zero-add f);
+      places = λ l. a .heads (rw zero-add l);
     }
 
 module _ (book index : List ℕ) (names : ℕ) (h m : List ℕ) where

@@ -18,23 +18,27 @@ ghost use Rattle.format.specs.FormatLaws.{Whole};
 ghost use Rattle.layout.specs.Own.{is-symmetric as symmetric-shape, is-transitive as transitive-shape};
 ghost use Rattle.orderer.specs.Shape.{end, shape-in, Shaped};
 ghost use Rattle.builder.specs.Lay.{Small, Ready, Lays, way, Inner-below, Roots};
+ghost use Rattle.builder.specs.Memo.{Memo};
 use crate::index::first_of;
 use crate::index::level_of;
 use crate::index::next_of;
 use crate::index::place_of;
+use crate::memo::again;
+use crate::memo::keep;
+use crate::memo::number;
 use orderer::Shape;
 use orderer::shape_of;
 use role_bytes::inverse;
 use role_bytes::name;
 
 // The next free state and the number of transitions so far. A state above 2,048 says that the tables are too large; nothing more is laid
-// then.
+// then. Transitions are counted up to 60,000, far more than tables of 2,048 states have.
 pub struct Place {
     pub state: usize,
     pub count: usize,
 }
 
-// The roots of all names, in name order, and where each stands.
+// The roots of all names, in name order, and where each stands. Transitions are counted also where there is no room for them.
 pub(crate) fn roots(
     book: &[u8],
     index: &[u16],
@@ -48,26 +52,36 @@ pub(crate) fn roots(
         → ((x : ℕ) → x < names → level-in (now (index .entry)) x < fuel)
         → Roots ρs fuel names r (now (heads .entry)) (now (heads .exit)) (now (moves .entry)) (now (moves .exit))) ⌝ }
 {
+    let mut memo = [0u16; 512];
     let mut place = Place { state: 0, count: 0 };
     let mut x = 0;
     while x < names {
         let state = place.state;
         put(heads, x, state as u16);
-        place = fragment(book, index, (2 * x) as u8, place, moves);
+        place = fragment(book, index, (2 * x) as u8, place, &mut memo, moves);
         x += 1;
     }
     place
 }
 
-// A fragment of a role: two states, letters, the transition back, the rows of the role's rules and, if it is symmetric, of its inverse's.
-fn fragment(book: &[u8], index: &[u16], role: u8, place: Place, moves: &mut [u16]) -> Place
+// A fragment of a role: laid anew the first time, and again from the memo afterwards.
+fn fragment(
+    book: &[u8],
+    index: &[u16],
+    role: u8,
+    place: Place,
+    memo: &mut [u16],
+    moves: &mut [u16],
+) -> Place
     requires { ⌜ Ready (now book) (now index) ⌝ }
     requires { ⌜ role < 128 ⌝ }
     requires { ⌜ Small place ⌝ }
+    requires { ⌜ Memo (now book) (now index) (now memo) place (now moves) ⌝ }
     ensures small { λ r. ⌜ Small r ⌝ }
     ensures laid { λ r. ⌜ ((ρs : List Rule) → Indexed (now (book .entry)) ρs (now (index .entry)) → (fuel : ℕ)
         → level-in (now (index .entry)) (name-of role) < fuel
         → Lays (size-of ρs fuel role) (transitions-of ρs fuel role (place .state)) place (now (moves .entry)) r (now (moves .exit))) ⌝ }
+    ensures memo { λ r. ⌜ Memo (now (book .entry)) (now (index .entry)) (now (memo .exit)) r (now (moves .exit)) ⌝ }
 {
     let initial = place.state;
     if 2046 < initial {
@@ -76,6 +90,36 @@ fn fragment(book: &[u8], index: &[u16], role: u8, place: Place, moves: &mut [u16
             count: place.count,
         };
     }
+    let r = role as usize;
+    if 0 < number(memo, r) {
+        return again(r, place, memo, moves);
+    }
+    let after = anew(book, index, role, place, memo, moves);
+    keep(r, place, after, memo);
+    after
+}
+
+// A fragment of a role: two states, letters, the transition back, the rows of the role's rules and, if it is symmetric, of its inverse's.
+fn anew(
+    book: &[u8],
+    index: &[u16],
+    role: u8,
+    place: Place,
+    memo: &mut [u16],
+    moves: &mut [u16],
+) -> Place
+    requires { ⌜ Ready (now book) (now index) ⌝ }
+    requires { ⌜ role < 128 ⌝ }
+    requires { ⌜ place .state ≤ 2046 ⌝ }
+    requires { ⌜ Small place ⌝ }
+    requires { ⌜ Memo (now book) (now index) (now memo) place (now moves) ⌝ }
+    ensures small { λ r. ⌜ Small r ⌝ }
+    ensures laid { λ r. ⌜ ((ρs : List Rule) → Indexed (now (book .entry)) ρs (now (index .entry)) → (fuel : ℕ)
+        → level-in (now (index .entry)) (name-of role) < fuel
+        → Lays (size-of ρs fuel role) (transitions-of ρs fuel role (place .state)) place (now (moves .entry)) r (now (moves .exit))) ⌝ }
+    ensures memo { λ r. ⌜ Memo (now (book .entry)) (now (index .entry)) (now (memo .exit)) r (now (moves .exit)) ⌝ }
+{
+    let initial = place.state;
     let symmetric = symmetric_of(book, index, role);
     let transitive = transitive_of(book, index, role);
     let begun = Place {
@@ -83,9 +127,9 @@ fn fragment(book: &[u8], index: &[u16], role: u8, place: Place, moves: &mut [u16
         count: place.count,
     };
     let lettered = letters(begun, symmetric, transitive, role, initial, moves);
-    let own = rows(book, index, role, initial, lettered, moves);
+    let own = rows(book, index, role, initial, lettered, memo, moves);
     if symmetric {
-        return rows(book, index, inverse(role), initial, own, moves);
+        return rows(book, index, inverse(role), initial, own, memo, moves);
     }
     own
 }
@@ -152,24 +196,27 @@ fn rows(
     role: u8,
     initial: usize,
     place: Place,
+    memo: &mut [u16],
     moves: &mut [u16],
 ) -> Place
     requires { ⌜ Ready (now book) (now index) ⌝ }
     requires { ⌜ role < 128 ⌝ }
     requires { ⌜ initial ≤ 2046 ⌝ }
     requires { ⌜ Small place ⌝ }
+    requires { ⌜ Memo (now book) (now index) (now memo) place (now moves) ⌝ }
     ensures small { λ r. ⌜ Small r ⌝ }
     ensures laid { λ r. ⌜ ((ρs : List Rule) → Indexed (now (book .entry)) ρs (now (index .entry)) → (fuel : ℕ)
         → level-in (now (index .entry)) (name-of role) ≤ fuel
         → Lays (rows-size (size-of ρs fuel) (own-shapes ρs role))
         (rows-transitions (size-of ρs fuel) (transitions-of ρs fuel) initial (place .state) (own-shapes ρs role)) place (now (moves .entry)) r
         (now (moves .exit))) ⌝ }
+    ensures memo { λ r. ⌜ Memo (now (book .entry)) (now (index .entry)) (now (memo .exit)) r (now (moves .exit)) ⌝ }
 {
     let x = name(role) as usize;
     let mut at = place;
     let mut k = first_of(index, x);
     while k < 256 {
-        at = rule_row(book, index, k, role, initial, at, moves);
+        at = rule_row(book, index, k, role, initial, at, memo, moves);
         k = next_of(index, k);
     }
     at
@@ -183,6 +230,7 @@ fn rule_row(
     role: u8,
     initial: usize,
     place: Place,
+    memo: &mut [u16],
     moves: &mut [u16],
 ) -> Place
     requires { ⌜ Ready (now book) (now index) ⌝ }
@@ -190,12 +238,14 @@ fn rule_row(
     requires { ⌜ role < 128 ⌝ }
     requires { ⌜ initial ≤ 2046 ⌝ }
     requires { ⌜ Small place ⌝ }
+    requires { ⌜ Memo (now book) (now index) (now memo) place (now moves) ⌝ }
     ensures small { λ r. ⌜ Small r ⌝ }
     ensures laid { λ r. ⌜ ((ρs : List Rule) → Indexed (now (book .entry)) ρs (now (index .entry)) → (fuel : ℕ)
         → level-in (now (index .entry)) (name-of role) ≤ fuel
         → Lays (rows-size (size-of ρs fuel) (facing role (rule ρs k) ∷ []))
         (rows-transitions (size-of ρs fuel) (transitions-of ρs fuel) initial (place .state) (facing role (rule ρs k) ∷ [])) place
         (now (moves .entry)) r (now (moves .exit))) ⌝ }
+    ensures memo { λ r. ⌜ Memo (now (book .entry)) (now (index .entry)) (now (memo .exit)) r (now (moves .exit)) ⌝ }
 {
     let at = place_of(index, k);
     let Shape::Row(inner) = shape_at(book, at) else {
@@ -218,6 +268,7 @@ fn rule_row(
             begins,
             ends,
             place,
+            memo,
             moves,
         );
     }
@@ -232,6 +283,7 @@ fn rule_row(
         begins,
         ends,
         place,
+        memo,
         moves,
     )
 }
@@ -246,17 +298,20 @@ fn row(
     from: usize,
     to: usize,
     place: Place,
+    memo: &mut [u16],
     moves: &mut [u16],
 ) -> Place
     requires { ⌜ Ready (now book) (now index) ⌝ }
     requires { ⌜ Inner-below (now index) level (now inner) ⌝ }
     requires { ⌜ (from ≤ 2047) × (to ≤ 2047) ⌝ }
     requires { ⌜ Small place ⌝ }
+    requires { ⌜ Memo (now book) (now index) (now memo) place (now moves) ⌝ }
     ensures small { λ r. ⌜ Small r ⌝ }
     ensures laid { λ r. ⌜ ((ρs : List Rule) → Indexed (now (book .entry)) ρs (now (index .entry)) → (fuel : ℕ) → level ≤ fuel
         → Lays (row-size (size-of ρs fuel) (way inverted (now (inner .entry))))
         (row-transitions (size-of ρs fuel) (transitions-of ρs fuel) from to (place .state) (way inverted (now (inner .entry)))) place
         (now (moves .entry)) r (now (moves .exit))) ⌝ }
+    ensures memo { λ r. ⌜ Memo (now (book .entry)) (now (index .entry)) (now (memo .exit)) r (now (moves .exit)) ⌝ }
 {
     let mut at = place;
     let mut reached = from;
@@ -264,7 +319,7 @@ fn row(
     while k < inner.len() {
         let initial = at.state;
         at = transition(at, reached, 128, initial, moves);
-        at = fragment(book, index, inner_role(inner, inverted, k), at, moves);
+        at = fragment(book, index, inner_role(inner, inverted, k), at, memo, moves);
         reached = initial + 1;
         k += 1;
     }
@@ -361,7 +416,7 @@ fn shape_at(book: &[u8], at: usize) -> Shape
     shape_of(&book[start..end], right)
 }
 
-// Writes one transition, unless the tables are too large already or there is no room for it.
+// Counts one transition, unless the tables are too large already, and writes it where there is room.
 fn transition(place: Place, from: usize, label: usize, to: usize, moves: &mut [u16]) -> Place
     requires { ⌜ Small place ⌝ }
     requires { ⌜ (from < 65536) × (label < 65536) × (to < 65536) ⌝ }
@@ -378,7 +433,10 @@ fn transition(place: Place, from: usize, label: usize, to: usize, moves: &mut [u
         return place;
     }
     if moves.len() < 3 * count + 3 {
-        return place;
+        return Place {
+            state: state,
+            count: count + 1,
+        };
     }
     moves[3 * count] = from as u16;
     moves[3 * count + 1] = label as u16;

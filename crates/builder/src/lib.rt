@@ -1,12 +1,9 @@
 // The table builder: causes 1 to 11, and the tables of an accepted book in lent memory.
-ghost use mathlib.Core.Path.{_≡_};
-ghost use Prim.Native.Nat.{_≤_};
-ghost use lib.ListN.{length};
-ghost use lib.Seq.{paste};
 ghost use Rattle.builder.specs.Built.{Prepared, Builds};
 
 mod index;
 mod lay;
+mod memo;
 
 use decoder::Verdict;
 use index::fill;
@@ -43,7 +40,7 @@ pub fn build(book: &[u8], heads: &mut [u16], moves: &mut [u16]) -> Outcome
     }
 }
 
-// Builds the tables of an ordered book through its index: first aside, to learn their sizes, then in the lent ones.
+// Builds the tables of an ordered book through its index: first where there is no room, to learn their sizes, then in the lent ones.
 fn lay_tables(
     book: &[u8],
     index: &[u16],
@@ -54,9 +51,9 @@ fn lay_tables(
     requires { ⌜ Prepared (now book) (now index) names ⌝ }
     ensures { λ r. ⌜ Builds (now (book .entry)) (now (heads .entry)) (now (moves .entry)) (now (heads .exit)) (now (moves .exit)) r ⌝ }
 {
-    let mut own_heads = [0u16; 64];
-    let mut own_moves = [0u16; 15360];
-    let end = roots(book, index, names, &mut own_heads, &mut own_moves);
+    let mut no_heads = [0u16; 1];
+    let mut no_moves = [0u16; 1];
+    let end = roots(book, index, names, &mut no_heads, &mut no_moves);
     let states = end.state;
     let count = end.count;
     if 2048 < states {
@@ -71,23 +68,10 @@ fn lay_tables(
     if moves.len() < 3 * count {
         return Outcome::Refused(Refusal::Short);
     }
-    copy(&own_heads, names, heads);
-    copy(&own_moves, 3 * count, moves);
+    roots(book, index, names, heads, moves);
     Outcome::Built(Counts {
         names: names,
         states: states,
         transitions: count,
     })
-}
-
-// Copies the first numbers of a table over those of another.
-fn copy(from: &[u16], count: usize, to: &mut [u16])
-    requires { ⌜ (count ≤ length (now from)) × (count ≤ length (now to)) ⌝ }
-    ensures { λ _. ⌜ now (to .exit) ≡ paste (now (to .entry)) 0 (now (from .entry)) count ⌝ }
-{
-    let mut i = 0;
-    while i < count {
-        to[i] = from[i];
-        i += 1;
-    }
 }

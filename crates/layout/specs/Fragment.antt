@@ -28,13 +28,21 @@ laid-states z ts p k m r j o a =
     record {
       within = λ h. let e : r ≡ p + 2 + z = a .within (omega arith) in omega arith;
       over = λ h. a .over (omega arith);
+      count = λ h g. a .count (omega arith) g;
+      full = λ h g. a .full (omega arith) g;
       exact = λ h g f. a .exact (omega arith) g f;
     }
 
 -- past the limit
 pub laid-over : (z : ℕ) (ts : List Transition) (p k : ℕ) (m : List ℕ) (r j : ℕ) (o : List ℕ) → 2048 < p + z → 2048 < r → Laid z ts p k m r j o
 laid-over z ts p k m r j o h g =
-    record { within = λ l. absurd (let f : ⊥ = omega arith in f); over = λ l. g; exact = λ l i j. absurd (let f : ⊥ = omega arith in f) }
+    record {
+      within = λ l. absurd (let f : ⊥ = omega arith in f);
+      over = λ l. g;
+      count = λ l i. absurd (let f : ⊥ = omega arith in f);
+      full = λ l i. absurd (let f : ⊥ = omega arith in f);
+      exact = λ l i j. absurd (let f : ⊥ = omega arith in f);
+    }
 
 module _ (ρs : List Rule) (apart : Apart-rules ρs) (fuel r : ℕ) where
   abbrev rows-at : (i at r′ : ℕ) → List Transition

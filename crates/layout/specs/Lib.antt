@@ -3,6 +3,8 @@ pub mod Bound
 pub mod Own
 pub mod Laid
 pub mod Fragment
+pub mod Shifted
+pub mod ShiftedLaws
 pub mod Linked
 pub mod Indexed
 pub mod IndexedLaws

@@ -1,9 +1,8 @@
--- `lay_tables` meets its contract: causes 9 to 11 by what was laid aside, then its numbers in the lent memory.
-use mathlib.Core.Path.{refl}
+-- `lay_tables` meets its contract: causes 9 to 11 by what was counted, then the tables in the lent memory.
 use native.Mathlib.Omega.{arith}
-use Rattle.builder.specs.BuiltLaws.{builds-refused, builds-copied, fuel-enough, too-large, fits, same-count}
-use Rattle.causes.specs.BuiltLaws.{built-states, built-count, built-heads, built-moves}
 use borrow.Author.Needs.{needs}
+use Rattle.causes.specs.BuiltLaws.{built-states, built-count, built-heads, built-moves}
+use Rattle.builder.specs.BuiltLaws.{builds-refused, builds-laid, fuel-enough, too-large, fits, same-count}
 use Rattle.builder.proofs.lay_tables.Statement.{statement}
 use Rattle.builder.proofs.lay_tables.Tie as tie
 
@@ -25,13 +24,13 @@ returns-2 : tie.Need-returns-2
 returns-2 c = let p = c .before .before .before .before .before .before .before .before .before .before .before .pre in
     let w = c .before .before .before .before .roots .ensures (p .book .rules) (p .index) (p .book .names) (fuel-enough _ _ _ p) in
     builds-refused _ _ _ _
-    (built-count _ _ _ (p .book) (p .ordered) (fits _ _ _ p _ _ _ _ _ w (c .before .if1 .left)) (omega (arith, same-count _ _ _ p _ _ _ _ _ w refl (c .before .if1 .left), c .if2 .taken)))
+    (built-count _ _ _ (p .book) (p .ordered) (fits _ _ _ p _ _ _ _ _ w (c .before .if1 .left)) (omega (arith, same-count _ _ _ p _ _ _ _ _ w (c .before .if1 .left), c .if2 .taken)))
 
 returns-3 : tie.Need-returns-3
 returns-3 c = let p = c .before .before .before .before .before .before .before .before .before .before .before .before .pre in
     let w = c .before .before .before .before .before .roots .ensures (p .book .rules) (p .index) (p .book .names) (fuel-enough _ _ _ p) in
     builds-refused _ _ _ _
-    (built-heads _ _ _ (p .book) (p .ordered) (fits _ _ _ p _ _ _ _ _ w (c .before .before .if1 .left)) (omega (arith, same-count _ _ _ p _ _ _ _ _ w refl (c .before .before .if1 .left), c .before .if2 .left))
+    (built-heads _ _ _ (p .book) (p .ordered) (fits _ _ _ p _ _ _ _ _ w (c .before .before .if1 .left)) (omega (arith, same-count _ _ _ p _ _ _ _ _ w (c .before .before .if1 .left), c .before .if2 .left))
     (omega (arith, p .same, c .if3 .taken)))
 
 mul-if4 : tie.Need-mul-if4
@@ -40,24 +39,12 @@ mul-if4 c = search needs
 returns-4 : tie.Need-returns-4
 returns-4 c = let p = c .before .before .before .before .before .before .before .before .before .before .before .before .before .pre in
     let w = c .before .before .before .before .before .before .roots .ensures (p .book .rules) (p .index) (p .book .names) (fuel-enough _ _ _ p) in
-    let k = same-count _ _ _ p _ _ _ _ _ w refl (c .before .before .before .if1 .left) in
+    let k = same-count _ _ _ p _ _ _ _ _ w (c .before .before .before .if1 .left) in
     builds-refused _ _ _ _
     (built-moves _ _ _ (p .book) (p .ordered) (fits _ _ _ p _ _ _ _ _ w (c .before .before .before .if1 .left)) (omega (arith, k, c .before .before .if2 .left)) (omega (arith, k, c .if4 .taken)))
 
-slice-aggregate-copy : tie.Need-slice-aggregate-copy
-slice-aggregate-copy c = search needs
-
-copy-requires : tie.Need-copy-requires
-copy-requires c κs = search needs
-
-slice-aggregate-copy-2 : tie.Need-slice-aggregate-copy-2
-slice-aggregate-copy-2 c = search needs
-
-mul-copy : tie.Need-mul-copy
-mul-copy c = search needs
-
-copy-requires-2 : tie.Need-copy-requires-2
-copy-requires-2 c κs = search needs
+roots-requires-2 : tie.Need-roots-requires-2
+roots-requires-2 c κs = search needs
 
 same-length : tie.Need-same-length
 same-length c = search needs
@@ -66,10 +53,10 @@ same-length-2 : tie.Need-same-length-2
 same-length-2 c = search needs
 
 returns-5 : tie.Need-returns-5
-returns-5 c = let p = c .before .before .before .before .before .before .before .before .before .before .before .before .before .before .before .before .before .before .before .before .before .before .before .pre in
-    rw (c .before .before .before .before .before .before .before .copy .ensures, c .before .before .copy2 .ensures)
-    (builds-copied _ _ _ p _ _ _ _ _ (c .before .before .before .before .before .before .before .before .before .before .before .before .before .before .before .before .roots .ensures (p .book .rules) (p .index) (p .book .names) (fuel-enough _ _ _ p)) refl refl _ _
-    (c .before .before .before .before .before .before .before .before .before .before .before .before .before .if1 .left) (c .before .before .before .before .before .before .before .before .before .before .before .before .if2 .left) (c .before .before .before .before .before .before .before .before .before .before .before .if3 .left) (c .before .before .before .before .before .before .before .before .before .before .if4 .left))
+returns-5 c = let p = c .before .before .before .before .before .before .before .before .before .before .before .before .before .before .before .before .before .before .before .before .pre in
+    let w = c .before .before .before .before .before .before .before .before .before .before .before .before .before .roots .ensures (p .book .rules) (p .index) (p .book .names) (fuel-enough _ _ _ p) in
+    let v = c .before .before .before .before .roots2 .ensures (p .book .rules) (p .index) (p .book .names) (fuel-enough _ _ _ p) in
+    builds-laid _ _ _ p _ _ _ _ _ w _ _ _ _ _ v (c .before .before .before .before .before .before .before .before .before .before .if1 .left) (c .before .before .before .before .before .before .before .before .before .if2 .left) (c .before .before .before .before .before .before .before .before .if3 .left) (c .before .before .before .before .before .before .before .if4 .left)
 
 pub lay-tables-spec : {M : Type 1} → statement M
 lay-tables-spec =
@@ -83,11 +70,7 @@ lay-tables-spec =
     returns-3
     mul-if4
     returns-4
-    slice-aggregate-copy
-    copy-requires
-    slice-aggregate-copy-2
-    mul-copy
-    copy-requires-2
+    roots-requires-2
     same-length
     same-length-2
     returns-5)

@@ -1,4 +1,4 @@
--- `transition` meets its contract: three numbers, unless the tables are full.
+-- `transition` meets its contract: three numbers, none where there is no room, and nothing counted where the tables are full.
 use mathlib.Core.Path.{refl}
 use native.Mathlib.Omega.{arith}
 use lib.ListN.{length-set}
@@ -19,8 +19,11 @@ mul-if3 c = search needs
 add-if3 : tie.Need-add-if3
 add-if3 c = search needs
 
+add-t12 : tie.Need-add-t12
+add-t12 c = search needs
+
 returns-3 : tie.Need-returns-3
-returns-3 c = (c .before .before .before .pre .0, (refl, laid-short _ _ _ _ (c .if3 .taken)))
+returns-3 c = (record { state = c .before .before .before .pre .0 .state; count = omega (arith, c .before .if2 .left) }, (refl, laid-short _ _ _ _ (c .if3 .taken)))
 
 cast-moves : tie.Need-cast-moves
 cast-moves c = search needs
@@ -81,6 +84,7 @@ transition-spec =
     returns-2
     mul-if3
     add-if3
+    add-t12
     returns-3
     cast-moves
     mul-moves
