@@ -1,11 +1,10 @@
 -- What the functions that lay fragments promise, over the place that they are handed and the one that they hand back.
-use mathlib.Core.Bool.{Bool, cond}
 use mathlib.Core.List.{List}
 use mathlib.Core.Path.{_≡_}
 use Prim.Native.Nat.{ℕ, _*_, _<_, _≤_}
 use lib.ListN.{length, getD}
 use lib.Seq.{sets}
-use Rattle.roles.specs.Role.{Chain, name, inv-chain}
+use Rattle.roles.specs.Role.{Chain, name}
 use Rattle.roles.specs.Rule.{Rule}
 use Rattle.tables.specs.Tables.{Transition, numbers, states-from, transitions-from, roots-from}
 use Rattle.layout.specs.Laid.{Laid}
@@ -24,10 +23,6 @@ Ready book index = (ρs : List Rule) × Indexed book ρs index
 -- z states and some transitions are laid between two places
 abbrev pub Lays : ℕ → List Transition → Place → List ℕ → Place → List ℕ → Type 0
 Lays z ts p m q n = Laid z ts (p .state) (p .count) m (q .state) (q .count) n
-
--- inner roles as they stand, or inverted
-abbrev pub way : Bool → Chain → Chain
-way inverted w = cond inverted (inv-chain w) w
 
 -- roles of declared names whose levels are below a number
 abbrev pub Inner-below : List ℕ → ℕ → Chain → Type 0

@@ -5,23 +5,19 @@ use mathlib.Core.Path.{_≡_, refl}
 use Prim.Native.Nat.{ℕ, _+_, _-_, _<_, _≤_}
 use native.Mathlib.Omega.{arith}
 use lib.ListN.{length, getD}
-use Rattle.roles.specs.Role.{Chain, name}
+use Rattle.roles.specs.Role.{Chain, name, turn}
 use Rattle.roles.specs.RoleLaws.{name-inv, inv-below, length-inv-chain, getD-inv-chain}
 use Rattle.roles.specs.Rule.{Rule}
 use Rattle.tables.specs.Tables.{silent, row-size, row-transitions, size-of, transitions-of}
 use Rattle.layout.specs.Left.{RowLeft, row-left-start, row-left-next, row-left-end}
 use Rattle.layout.specs.Indexed.{Indexed, level-in}
-use Rattle.builder.specs.Lay.{Small, Lays, way, Inner-below}
+use Rattle.builder.specs.Lay.{Small, Lays, Inner-below}
 use Rattle.builder.specs.declared.lay.Place.{Place}
 
--- inverting a row keeps its length and the names of its roles
-pub length-way : (b : Bool) (w : Chain) → length (way b w) ≡ length w
-length-way true w = length-inv-chain w
-length-way false w = refl
-
-pub way-below : (b : Bool) (index : List ℕ) (level : ℕ) (w : Chain) → Inner-below index level w → Inner-below index level (way b w)
-way-below false index level w h k l = h k l
-way-below true index level w h k l =
+-- turning a row keeps the names of its roles
+pub turn-inner : (b : Bool) (index : List ℕ) (level : ℕ) (w : Chain) → Inner-below index level w → Inner-below index level (turn b w)
+turn-inner false index level w h k l = h k l
+turn-inner true index level w h k l =
     let g : k < length w = rw (← length-inv-chain w) l in
     let a : (getD w (length w - 1 - k) 0 < 128) × (level-in index (name (getD w (length w - 1 - k) 0)) < level) = h (length w - 1 - k) (omega arith) in
     rw (getD-inv-chain w k g) (inv-below (getD w (length w - 1 - k) 0) 64 (a .0), rw (name-inv (getD w (length w - 1 - k) 0)) (a .1))

@@ -7,7 +7,7 @@ use Prim.Native.Nat.{ℕ, _+_, _-_, _<_, _≤_}
 use native.Mathlib.Nat.{add-sub-cancel-left}
 use native.Mathlib.Omega.{arith}
 use lib.ListN.{length, getD, take, drop}
-use Rattle.roles.specs.Role.{name}
+use Rattle.roles.specs.Role.{name, turn}
 use Rattle.roles.specs.PartLaws.{part, length-part}
 use Rattle.roles.specs.Rule.{Rule}
 use Rattle.order.specs.Shape as Order
@@ -24,7 +24,7 @@ use Rattle.orderer.specs.Shape.{end, shape-in, Shaped, Within}
 use Rattle.orderer.specs.declared.shape.Row.{Row as Inner}
 use Rattle.orderer.specs.declared.shape.Shape.{Shape}
 use Rattle.orderer.specs.declared.shape.Shape.the-variants.{Transitive, Symmetric, Row}
-use Rattle.builder.specs.Lay.{Lays, way, Inner-below}
+use Rattle.builder.specs.Lay.{Lays, Inner-below}
 use Rattle.builder.specs.LayLaws.{rule-shape}
 use Rattle.builder.specs.declared.lay.Place.{Place}
 
@@ -111,8 +111,8 @@ module _ (s ix : List ℕ) (k at : ℕ) (e : at ≡ place-in ix k) (sh : Shape) 
     abbrev pub Inner-laid : Bool → Type 0
     Inner-laid b =
         (ρs : List Rule) → Indexed s ρs ix → (fuel : ℕ) → level ≤ fuel
-        → Lays (row-size (size-of ρs fuel) (way b (bytes s ix k at e sh d inner g)))
-        (row-transitions (size-of ρs fuel) (transitions-of ρs fuel) from to (p .state) (way b (bytes s ix k at e sh d inner g))) p m q n
+        → Lays (row-size (size-of ρs fuel) (turn b (bytes s ix k at e sh d inner g)))
+        (row-transitions (size-of ρs fuel) (transitions-of ρs fuel) from to (p .state) (turn b (bytes s ix k at e sh d inner g))) p m q n
 
     pub rule-straight : getD s at 0 ≡ r → from ≡ state (end (inner .from)) initial → to ≡ state (end (inner .to)) initial → Inner-laid false → Rule-laid q n
     rule-straight x f t a ρs i fuel l =

@@ -4,7 +4,7 @@ ghost use mathlib.Core.List.{List, [], _∷_};
 ghost use mathlib.Core.Path.{_≡_};
 ghost use Prim.Native.Nat.{ℕ, _+_, _*_, _<_, _≤_};
 ghost use lib.ListN.{length, getD, set};
-ghost use Rattle.roles.specs.Role.{Chain};
+ghost use Rattle.roles.specs.Role.{Chain, turn};
 ghost use Rattle.roles.specs.Role.{name as name-of};
 ghost use Rattle.roles.specs.Rule.{Rule};
 ghost use Rattle.tables.specs.Tables.{state, own-shapes, has-symmetric, has-transitive};
@@ -17,7 +17,7 @@ ghost use Rattle.format.specs.Place.{rule-at};
 ghost use Rattle.format.specs.FormatLaws.{Whole};
 ghost use Rattle.layout.specs.Own.{is-symmetric as symmetric-shape, is-transitive as transitive-shape};
 ghost use Rattle.orderer.specs.Shape.{end, shape-in, Shaped};
-ghost use Rattle.builder.specs.Lay.{Small, Ready, Lays, way, Inner-below, Roots};
+ghost use Rattle.builder.specs.Lay.{Small, Ready, Lays, Inner-below, Roots};
 ghost use Rattle.builder.specs.Memo.{Memo};
 use crate::index::first_of;
 use crate::index::level_of;
@@ -308,8 +308,8 @@ fn row(
     requires { ⌜ Memo (now book) (now index) (now memo) place (now moves) ⌝ }
     ensures small { λ r. ⌜ Small r ⌝ }
     ensures laid { λ r. ⌜ ((ρs : List Rule) → Indexed (now (book .entry)) ρs (now (index .entry)) → (fuel : ℕ) → level ≤ fuel
-        → Lays (row-size (size-of ρs fuel) (way inverted (now (inner .entry))))
-        (row-transitions (size-of ρs fuel) (transitions-of ρs fuel) from to (place .state) (way inverted (now (inner .entry)))) place
+        → Lays (row-size (size-of ρs fuel) (turn inverted (now (inner .entry))))
+        (row-transitions (size-of ρs fuel) (transitions-of ρs fuel) from to (place .state) (turn inverted (now (inner .entry)))) place
         (now (moves .entry)) r (now (moves .exit))) ⌝ }
     ensures memo { λ r. ⌜ Memo (now (book .entry)) (now (index .entry)) (now (memo .exit)) r (now (moves .exit)) ⌝ }
 {
@@ -329,7 +329,7 @@ fn row(
 // Role k of a row: of the inner roles as they stand, or of their inverses from the end.
 fn inner_role(inner: &[u8], inverted: bool, k: usize) -> u8
     requires { ⌜ k < length (now inner) ⌝ }
-    ensures { λ r. ⌜ r ≡ getD (way inverted (now (inner .entry))) k 0 ⌝ }
+    ensures { λ r. ⌜ r ≡ getD (turn inverted (now (inner .entry))) k 0 ⌝ }
 {
     if inverted {
         return inverse(inner[inner.len() - 1 - k]);

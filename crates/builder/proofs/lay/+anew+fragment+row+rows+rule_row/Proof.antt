@@ -10,17 +10,16 @@ use borrow.Fn.Kinds.{In}
 use borrow.Fn.PlainCycle.{Measures, is, falls, and}
 use denote.Ref.{now}
 use lib.ListN.{length}
-use Rattle.roles.specs.RoleLaws.{name-inv, inv-below}
-use Rattle.roles.specs.Role.{name}
+use Rattle.roles.specs.RoleLaws.{name-inv, inv-below, length-turn}
+use Rattle.roles.specs.Role.{name, turn}
 use Rattle.layout.specs.IndexedLaws.{later, name-small}
 use Rattle.layout.specs.Indexed.{first-in, level-in}
 use Rattle.layout.specs.Fragment.{fragment-over}
 use Rattle.builder.specs.RuleLaws.{state-small, whole-here, row-ends, row-inner, rule-none, rule-straight, rule-turned}
 use Rattle.builder.specs.RowsLaws.{Walking, walking-start, walking-next, walking-end}
-use Rattle.builder.specs.RowLaws.{Rowing, rowing-start, rowing-next, rowing-end, length-way, way-below}
+use Rattle.builder.specs.RowLaws.{Rowing, rowing-start, rowing-next, rowing-end, turn-inner}
 use Rattle.builder.specs.MemoLaws.{laid-after, memo-step, memo-lettered, memo-kept}
 use Rattle.builder.specs.Memo.{Memo}
-use Rattle.builder.specs.Lay.{way}
 use Rattle.builder.specs.FragmentLaws.{fragment-plain, fragment-symmetric}
 use Rattle.role_bytes.proofs.inverse.Reads as inverse-reads
 use Rattle.role_bytes.proofs.name.Reads as name-reads
@@ -467,7 +466,7 @@ fragment-returns-3 t c = (
 
 abbrev row-Inv-loop : row-lts.InvT-loop
 row-Inv-loop book index level inner inverted from to memo₀ moves₀ at₀ reached₀ k₀ memo moves at reached k =
-    Rowing book index level (way inverted inner) from to at₀ moves₀ at moves reached k × Memo book index memo at moves
+    Rowing book index level (turn inverted inner) from to at₀ moves₀ at moves reached k × Memo book index memo at moves
 
 abbrev row-μ-loop : row-lts.MeasureT-loop
 row-μ-loop book index level inner inverted from to memo₀ moves₀ at₀ reached₀ k₀ memo moves at reached k = length inner - k
@@ -511,7 +510,7 @@ row-fragment-requires : (t : ℕ) → row-lts.Need-fragment-requires (
   fragment.Post,
 ) (row-at t) row.Post row-Inv-loop row-μ-loop
 row-fragment-requires t c κs =
-    let b = way-below (c .before .before .before .before .before .before .before .before .before .before .before .before .before .before .args .inverted) (c .before .before .before .before .before .before .before .before .before .before .before .before .before .before .args .index .now) (c .before .before .before .before .before .before .before .before .before .before .before .before .before .before .args .level) (c .before .before .before .before .before .before .before .before .before .before .before .before .before .before .args .inner .now) (c .before .before .before .before .before .before .before .before .before .before .before .before .before .before .pre .1 .1 .0) (c .before .before .before .before .before .before .before .before .loop .k) (rw (length-way (c .before .before .before .before .before .before .before .before .before .before .before .before .before .before .args .inverted) (c .before .before .before .before .before .before .before .before .before .before .before .before .before .before .args .inner .now)) (c .before .before .before .before .before .before .before .loop-test .taken)) in
+    let b = turn-inner (c .before .before .before .before .before .before .before .before .before .before .before .before .before .before .args .inverted) (c .before .before .before .before .before .before .before .before .before .before .before .before .before .before .args .index .now) (c .before .before .before .before .before .before .before .before .before .before .before .before .before .before .args .level) (c .before .before .before .before .before .before .before .before .before .before .before .before .before .before .args .inner .now) (c .before .before .before .before .before .before .before .before .before .before .before .before .before .before .pre .1 .1 .0) (c .before .before .before .before .before .before .before .before .loop .k) (rw (length-turn (c .before .before .before .before .before .before .before .before .before .before .before .before .before .before .args .inverted) (c .before .before .before .before .before .before .before .before .before .before .before .before .before .before .args .inner .now)) (c .before .before .before .before .before .before .before .loop-test .taken)) in
     let f : level-in (c .before .before .before .before .before .before .before .before .before .before .before .before .before .before .args .index .now) (name (c .before .before .inner-role .result)) < c .before .before .before .before .before .before .before .before .before .before .before .before .before .before .args .level = rw (c .before .before .inner-role .ensures) (b .1) in
     (omega (arith, c .before .before .before .before .before .before .before .before .before .before .before .before .before .before .pre .0, f), (c .before .before .before .before .before .before .before .before .before .before .before .before .before .before .pre .1 .0, (rw (c .before .before .inner-role .ensures) (b .0), (c .before .before .before .before .before .transition .ensures .0, memo-step _ _ _ _ _ _ (c .before .before .before .before .before .transition .ensures .1 .1) (c .before .before .before .before .before .transition .kept .1 .1 .1 .1 .0) _ _ _ (c .before .before .before .before .before .before .before .before .loop .inv .1)))))
 
@@ -554,8 +553,8 @@ row-loop-again : (t : ℕ) → row-lts.Need-loop-again (
   fragment.Post,
 ) (row-at t) row.Post row-Inv-loop row-μ-loop
 row-loop-again t c = (
-  rowing-next _ _ _ _ _ _ _ _ _ _ _ _ (c .before .before .before .before .before .before .before .before .before .before .before .before .before .loop .inv .0) _ _ (c .before .before .before .before .before .before .before .before .before .before .transition .ensures .1 .0) (rw (length-way (c .before .before .before .before .before .before .before .before .before .before .before .before .before .before .before .before .before .before .before .args .inverted) (c .before .before .before .before .before .before .before .before .before .before .before .before .before .before .before .before .before .before .before .args .inner .now)) (c .before .before .before .before .before .before .before .before .before .before .before .before .loop-test .taken))
-      (c .before .before .before .before .before .before .before .before .before .before .transition .ensures .1 .1) _ (c .before .before .before .before .before .before .before .inner-role .ensures) (way-below (c .before .before .before .before .before .before .before .before .before .before .before .before .before .before .before .before .before .before .before .args .inverted) (c .before .before .before .before .before .before .before .before .before .before .before .before .before .before .before .before .before .before .before .args .index .now) (c .before .before .before .before .before .before .before .before .before .before .before .before .before .before .before .before .before .before .before .args .level) (c .before .before .before .before .before .before .before .before .before .before .before .before .before .before .before .before .before .before .before .args .inner .now) (c .before .before .before .before .before .before .before .before .before .before .before .before .before .before .before .before .before .before .before .pre .1 .1 .0)) _ _
+  rowing-next _ _ _ _ _ _ _ _ _ _ _ _ (c .before .before .before .before .before .before .before .before .before .before .before .before .before .loop .inv .0) _ _ (c .before .before .before .before .before .before .before .before .before .before .transition .ensures .1 .0) (rw (length-turn (c .before .before .before .before .before .before .before .before .before .before .before .before .before .before .before .before .before .before .before .args .inverted) (c .before .before .before .before .before .before .before .before .before .before .before .before .before .before .before .before .before .before .before .args .inner .now)) (c .before .before .before .before .before .before .before .before .before .before .before .before .loop-test .taken))
+      (c .before .before .before .before .before .before .before .before .before .before .transition .ensures .1 .1) _ (c .before .before .before .before .before .before .before .inner-role .ensures) (turn-inner (c .before .before .before .before .before .before .before .before .before .before .before .before .before .before .before .before .before .before .before .args .inverted) (c .before .before .before .before .before .before .before .before .before .before .before .before .before .before .before .before .before .before .before .args .index .now) (c .before .before .before .before .before .before .before .before .before .before .before .before .before .before .before .before .before .before .before .args .level) (c .before .before .before .before .before .before .before .before .before .before .before .before .before .before .before .before .before .before .before .args .inner .now) (c .before .before .before .before .before .before .before .before .before .before .before .before .before .before .before .before .before .before .before .pre .1 .1 .0)) _ _
       (c .before .before .before .before .fragment .kept .1 .1 .1 .1 .1 .0 ∙ (c .before .before .before .before .before .before .before .before .before .before .transition .kept .1 .1 .1 .1 .0 ∙ c .before .before .before .before .before .before .before .before .before .before .before .before .before .loop .inv .0 .same)) (c .before .before .before .before .fragment .ensures .0) (c .before .before .before .before .fragment .ensures .1 .0),
   c .before .before .before .before .fragment .ensures .1 .1,
 )
@@ -601,7 +600,7 @@ row-returns : (t : ℕ) → row-lts.Need-returns (
 row-returns t c = (
   c .before .before .transition2 .ensures .0,
   (
-    rowing-end _ _ _ _ _ _ _ _ _ _ _ _ (c .before .before .before .before .before .loop .inv .0) _ _ (c .before .before .transition2 .ensures .1 .0) (rw (length-way (c .before .before .before .before .before .before .before .before .before .before .before .args .inverted) (c .before .before .before .before .before .before .before .before .before .before .before .args .inner .now)) (c .before .before .before .before .loop-test .left)) (c .before .before .transition2 .ensures .1 .1),
+    rowing-end _ _ _ _ _ _ _ _ _ _ _ _ (c .before .before .before .before .before .loop .inv .0) _ _ (c .before .before .transition2 .ensures .1 .0) (rw (length-turn (c .before .before .before .before .before .before .before .before .before .before .before .args .inverted) (c .before .before .before .before .before .before .before .before .before .before .before .args .inner .now)) (c .before .before .before .before .loop-test .left)) (c .before .before .transition2 .ensures .1 .1),
     memo-step _ _ _ _ _ _ (c .before .before .transition2 .ensures .1 .1) (c .before .before .transition2 .kept .1 .1 .1 .1 .0) _ _ _ (c .before .before .before .before .before .loop .inv .1),
   ),
 )
