@@ -22,7 +22,7 @@ pub use tables::build;
 
 use book::Book;
 use query::check_chain;
-use tables::Plan;
+use tables::build_if;
 
 /// The names and the rule count of a well-formed book, or the refusal (causes 1 to 7).
 pub fn read(book: &[u8]) -> Result<(u64, u64), Refusal> {
@@ -46,12 +46,11 @@ pub fn derived(
     role: u8,
     chain: &[u8],
 ) -> Result<bool, Refusal> {
-    let plan = Plan::of(book, heads.len(), moves.len())?;
-    check_chain(plan.names(), role, chain)?;
-    plan.write(heads, moves);
+    let (_, transitions) = build_if(book, heads, moves, |names| check_chain(names, role, chain))?;
+    let names = usize::from(book[book::NAMES]);
     ask(
-        &heads[..plan.names()],
-        &moves[..plan.numbers()],
+        &heads[..names],
+        &moves[..3 * transitions as usize],
         role,
         chain,
     )

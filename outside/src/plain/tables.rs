@@ -228,65 +228,41 @@ impl Writer<'_, '_> {
     }
 }
 
-/// A book whose tables fit their limits and the lengths that are lent, measured and not yet written.
-pub struct Plan<'a> {
-    fragments: Fragments<'a>,
-    names: usize,
-    states: u32,
-    transitions: u32,
-}
-
-impl<'a> Plan<'a> {
-    /// Causes 1 to 11, for lent slices of these lengths.
-    pub fn of(book: &'a [u8], heads: usize, moves: usize) -> Result<Plan<'a>, Refusal> {
-        let book = Book::read(book)?;
-        order::check(&book)?;
-        let mut fragments = Fragments::new(&book);
-        let (states, transitions) = fragments.measure_all(book.names());
-        if states as usize > MAX_STATES {
-            return Err(Cause::States.into());
-        }
-        if transitions as usize > MAX_TRANSITIONS {
-            return Err(Cause::Transitions.into());
-        }
-        if heads < book.names() || moves < 3 * transitions as usize {
-            return Err(Cause::ShortTables.into());
-        }
-        Ok(Plan {
-            fragments,
-            names: book.names(),
-            states,
-            transitions,
-        })
-    }
-
-    pub fn names(&self) -> usize {
-        self.names
-    }
-
-    /// How many numbers of the moves are written.
-    pub fn numbers(&self) -> usize {
-        3 * self.transitions as usize
-    }
-
-    /// Writes the tables into slices at least as long as those asked for. Numbers after the tables keep their values.
-    pub fn write(&self, heads: &mut [u16], moves: &mut [u16]) {
-        let mut writer = Writer {
-            fragments: &self.fragments,
-            transitions: moves.as_chunks_mut().0,
-            states: 0,
-            written: 0,
-        };
-        for (name, head) in heads.iter_mut().enumerate().take(self.names) {
-            *head = writer.fragment(2 * name as u8);
-        }
-    }
-}
-
 /// Builds the tables of a book into the lent slices: the numbers of states and transitions, or the refusal
-/// (causes 1 to 11), which leaves the slices as they were.
+/// (causes 1 to 11), which leaves the slices as they were. Numbers after the tables keep their values.
 pub fn build(book: &[u8], heads: &mut [u16], moves: &mut [u16]) -> Result<(u64, u64), Refusal> {
-    let plan = Plan::of(book, heads.len(), moves.len())?;
-    plan.write(heads, moves);
-    Ok((u64::from(plan.states), u64::from(plan.transitions)))
+    build_if(book, heads, moves, |_| Ok(()))
+}
+
+/// The same, where one more check, of the number of names, passes after causes 1 to 11.
+pub fn build_if(
+    book: &[u8],
+    heads: &mut [u16],
+    moves: &mut [u16],
+    check: impl FnOnce(usize) -> Result<(), Refusal>,
+) -> Result<(u64, u64), Refusal> {
+    let book = Book::read(book)?;
+    order::check(&book)?;
+    let mut fragments = Fragments::new(&book);
+    let (states, transitions) = fragments.measure_all(book.names());
+    if states as usize > MAX_STATES {
+        return Err(Cause::States.into());
+    }
+    if transitions as usize > MAX_TRANSITIONS {
+        return Err(Cause::Transitions.into());
+    }
+    if heads.len() < book.names() || moves.len() < 3 * transitions as usize {
+        return Err(Cause::ShortTables.into());
+    }
+    check(book.names())?;
+    let mut writer = Writer {
+        fragments: &fragments,
+        transitions: moves.as_chunks_mut().0,
+        states: 0,
+        written: 0,
+    };
+    for (name, head) in heads.iter_mut().enumerate().take(book.names()) {
+        *head = writer.fragment(2 * name as u8);
+    }
+    Ok((u64::from(states), u64::from(transitions)))
 }
