@@ -1,6 +1,5 @@
 -- How answering one question after another gives what a batch promises.
-use mathlib.Core.Bool.{Bool, true, false}
-use mathlib.Core.List.{List, [], _∷_, _++_, append-assoc, append-nil}
+use mathlib.Core.List.{List, [], _∷_, append-assoc, append-nil}
 use mathlib.Core.Logic.{_⊎_, inl, inr}
 use mathlib.Core.Path.{_≡_, refl, sym, ap, ap₂, _∙_}
 use Prim.Native.Nat.{ℕ, zero, suc, _+_, _-_, _*_, _<_, _≤_}
@@ -14,8 +13,7 @@ use Rattle.queries.specs.Query.Answered.{turned-away}
 use Rattle.questions.specs.Question.{cause-of}
 use Rattle.questions.specs.declared.refusal.QueryRefusal.{QueryRefusal}
 use Rattle.questions.specs.declared.refusal.QueryRefusal.the-variants.{Tables, Chain, Role}
-use Rattle.answerer.specs.declared.batch.Batch.{Batch}
-use Rattle.answerer.specs.Batch.{told, links-of, Whole, Broken, Batched, Batches, Going, Sized}
+use Rattle.answerer.specs.Batch.{told, links-of, Broken, Batched, Batches, Going, Sized}
 use Rattle.answerer.specs.Batch.Batched.{none, more}
 
 -- what each test of the search for a whole question settles
@@ -53,7 +51,7 @@ module _ (q : List ℕ) (read size : ℕ) (h : read ≤ length q) (found : Sized
 
   module _ (heads moves : List ℕ) where
     -- its role and its chain stand in their places
-    pub whole-answered : (byte : ℕ) → Answered heads moves (getD q read 0) (take (read + size - (read + 3)) (drop (read + 3) q)) (told byte)
+    whole-answered : (byte : ℕ) → Answered heads moves (getD q read 0) (take (read + size - (read + 3)) (drop (read + 3) q)) (told byte)
         → Answered heads moves (getD (drop read q) 0 0) (take (links-of (drop read q)) (drop 3 (drop read q))) (told byte)
     whole-answered byte t =
         let e : size ≡ 3 + links-of (drop read q) = found .some some .0 in

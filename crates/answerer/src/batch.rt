@@ -1,6 +1,5 @@
 // Many questions put to the same tables, which are checked and indexed once. The questions follow one another as on the program's input: role byte,
 // number of links (16 bits, low byte first), links.
-ghost use mathlib.Core.Bool.{Bool};
 ghost use Prim.Native.Nat.{_+_, _≤_};
 ghost use lib.ListN.{length, drop};
 ghost use Rattle.queries.specs.Query.{Answered};

@@ -1,9 +1,9 @@
 -- How the answers of a batch, run by run, and stopping give what a block promises.
-use mathlib.Core.Bool.{Bool, true, false, not}
+use mathlib.Core.Bool.{false}
 use mathlib.Core.List.{List, [], _∷_, _++_, append-assoc, append-nil}
 use mathlib.Core.Logic.{_⊎_, inl, inr}
-use mathlib.Core.Path.{_≡_, refl, sym, ap, _∙_}
-use Prim.Native.Nat.{ℕ, zero, suc, _+_, _-_, _*_, _<_, _≤_}
+use mathlib.Core.Path.{_≡_, sym, ap, _∙_}
+use Prim.Native.Nat.{ℕ, suc, _+_, _-_, _*_, _<_, _≤_}
 use native.Mathlib.Omega.{arith}
 use borrow.Author.Tests.{eqb-true, eqb-false}
 use lib.Dec.{eqb}
@@ -12,8 +12,7 @@ use lib.Seq.{drop-drop, take-suc, take-all, take-append-le, length-take-le}
 use Rattle.roles.specs.Tests.{eq-or-ne}
 use Rattle.queries.specs.Query.{Answered}
 use Rattle.transcripts.specs.Lines.{answer-line}
-use Rattle.transcripts.specs.Transcript.{next, Transcript}
-use Rattle.transcripts.specs.Transcript.Next.{nothing, part}
+use Rattle.transcripts.specs.Transcript.{Transcript}
 use Rattle.transcripts.specs.Transcript.Transcript.{answered}
 use Rattle.transcripts.specs.TranscriptLaws.{next-whole, next-part}
 use Rattle.answerer.specs.Batch.{told, Broken, Batched, Batches}
@@ -67,7 +66,7 @@ module _ (hs ms : List ℕ) where
 
 -- the run that a batch gives, whose answers are lent the first `most` bytes of a buffer
 module _ (hs ms q : List ℕ) (most : ℕ) (buffer : List ℕ) (enough : most ≤ length buffer) (answers : List ℕ) (b : Batch) (p : Batches hs ms q (take most buffer) answers b) where
-  pub lent-size : length (take most buffer) ≡ most
+  lent-size : length (take most buffer) ≡ most
   lent-size = length-take-le most buffer enough
 
   pub lent-few : b .answered ≤ most

@@ -1,7 +1,6 @@
 -- `put_answers` meets its contract. The invariant: the lines of the first i answers are put, each of at most 64 bytes.
 use mathlib.Core.List.{List}
 use mathlib.Core.Path.{_≡_, ap}
-use borrow.Author.Needs.{needs}
 use Prim.Native.Nat.{ℕ, _+_, _*_, _-_, _≤_}
 use native.Mathlib.Omega.{arith}
 use lib.ListN.{length, take}
