@@ -129,6 +129,43 @@ fn streams() {
     });
 }
 
+/// Far more links one after another than a set of states has stamps: no state of a question before may count as active.
+#[test]
+fn many_links() {
+    let Some(engine) = engine() else { return };
+    run("many links", 20, |trial, random| {
+        let mut questions = Vec::new();
+        for number in 0..256 {
+            let role = random.pick(&[0, 1, 2, 3, 6, 7]);
+            let links = if number % 64 == 63 { 3 } else { 1024 };
+            let mut chain = vec![0; links];
+            if role > 1 {
+                chain[links - 1] = 2;
+            }
+            if role > 3 {
+                chain[links - 2] = 2;
+                chain[links - 1] = 4;
+            }
+            if role & 1 == 1 {
+                chain.reverse();
+                chain.iter_mut().for_each(|link| *link ^= 1);
+            }
+            if random.percent(40) {
+                chain[random.below(links)] = random.below(8) as u8;
+            }
+            questions.push(role);
+            questions.extend((links as u16).to_le_bytes());
+            questions.extend(chain);
+        }
+        let given = written(&engine, &[], Some(HALL), &questions);
+        let owed = written(&plain_engine(), &[], Some(HALL), &questions);
+        let input = [("engine", given.clone()), ("plain_engine", owed.clone())];
+        trial.check(given == owed, "the programs differ", &input);
+        trial.count("lines", owed.lines().count() as u64);
+        trial.count("yes", owed.matches("yes").count() as u64);
+    });
+}
+
 #[test]
 fn every_cut() {
     let Some(engine) = engine() else { return };
