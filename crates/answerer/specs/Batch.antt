@@ -8,6 +8,7 @@ use lib.ListN.{length, getD, take, drop}
 use Rattle.format.specs.Result.{Result}
 use Rattle.format.specs.Result.Result.{refused, accepted}
 use Rattle.queries.specs.Query.{tables-fit, Answered}
+use Rattle.queries.specs.Input.{links-of, Whole, Broken}
 use Rattle.simulation.specs.Transitions.{transition-count}
 use Rattle.simulation.specs.Index.{Indexed}
 use Rattle.answerer.specs.declared.batch.Batch.{Batch}
@@ -17,17 +18,6 @@ abbrev pub told : ℕ → Result Bool
 told zero = accepted false
 told (suc zero) = accepted true
 told (suc (suc n)) = refused (suc (suc n)) 0
-
--- how many links the question at the front of s says that it has
-abbrev pub links-of : List ℕ → ℕ
-links-of s = getD s 1 0 + 256 * getD s 2 0
-
--- the question at the front of s is whole, or not
-abbrev pub Whole : List ℕ → Type 0
-Whole s = 3 + links-of s ≤ length s
-
-abbrev pub Broken : List ℕ → Type 0
-Broken s = length s < 3 + links-of s
 
 module _ (heads moves : List ℕ) where
   -- the bytes answer, one each, the whole questions at the front of s, which take n bytes

@@ -10,10 +10,11 @@ use lib.Seq.{getD-drop, drop-drop, take-suc-set, drop-set-lt}
 use Rattle.format.specs.Result.Result.{refused}
 use Rattle.queries.specs.Query.{query, Answered}
 use Rattle.queries.specs.Query.Answered.{turned-away}
+use Rattle.queries.specs.Input.{links-of, Broken}
 use Rattle.questions.specs.Question.{cause-of}
 use Rattle.questions.specs.declared.refusal.QueryRefusal.{QueryRefusal}
 use Rattle.questions.specs.declared.refusal.QueryRefusal.the-variants.{Tables, Chain, Role}
-use Rattle.answerer.specs.Batch.{told, links-of, Broken, Batched, Batches, Going, Sized}
+use Rattle.answerer.specs.Batch.{told, Batched, Batches, Going, Sized}
 use Rattle.answerer.specs.Batch.Batched.{none, more}
 
 -- what each test of the search for a whole question settles

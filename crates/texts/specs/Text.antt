@@ -1,13 +1,14 @@
 -- Parts of a text, and the bytes before a wanted one.
 use mathlib.Core.Bool.{cond, _&&_}
 use mathlib.Core.List.{List, [], _∷_}
-use Prim.Native.Nat.{ℕ, _-_, suc}
+use Prim.Native.Nat.{ℕ, suc}
 use lib.Dec.{leb, eqb}
-use lib.ListN.{length, take, drop}
+use lib.ListN.{length}
+use lib.Seq.{slice}
 
 -- the bytes from a place to an end; none where the text has no such places
-unfoldable pub between : (from end : ℕ) → List ℕ → List ℕ
-between from end s = cond (leb end (length s) && leb from end) (take (end - from) (drop from s)) []
+abbrev pub between : (from end : ℕ) → List ℕ → List ℕ
+between from end s = cond (leb from end && leb end (length s)) (slice from end s) []
 
 -- how many bytes stand before the first wanted one, or in all where there is none
 unfoldable pub ahead : ℕ → List ℕ → ℕ

@@ -1,15 +1,13 @@
 -- What answering the questions of a block promises.
-use mathlib.Core.Bool.{true, false, cond, _&&_}
-use mathlib.Core.List.{List, [], _++_}
+use mathlib.Core.Bool.{true, false}
+use mathlib.Core.List.{List, _++_}
 use mathlib.Core.Path.{_≡_}
 use Prim.Native.Nat.{ℕ, _+_, _<_, _≤_}
-use lib.Dec.{leb}
 use lib.ListN.{length, drop}
-use lib.Seq.{slice}
 use Rattle.queries.specs.Query.{Answered}
+use Rattle.queries.specs.Input.{Broken}
 use Rattle.transcripts.specs.Transcript.{next, Transcript}
 use Rattle.transcripts.specs.Transcript.Next.{nothing, part}
-use Rattle.answerer.specs.Batch.{Broken}
 use Rattle.transcriber.specs.declared.block.Progress.{Progress}
 use Rattle.transcriber.specs.declared.block.Run.{Run}
 use Rattle.transcriber.specs.Puts.{Puts}
@@ -44,7 +42,3 @@ pub record Runs (hs ms : List ℕ) (k : ℕ) (s out : List ℕ) (at : ℕ) (out�
       → Transcript (Answered hs ms) k (s ++ more) (lines ++ rest)
   pub goes : r .follows ≡ true → 0 < r .read
   pub ends : r .follows ≡ false → Broken (drop (r .read) s)
-
--- the bytes from one place up to another, where there are such places
-abbrev pub kept : (from end : ℕ) → List ℕ → List ℕ
-kept from end s = cond (leb from end && leb end (length s)) (slice from end s) []

@@ -11,11 +11,12 @@ use lib.ListN.{length, getD, take, drop, length-append, length-drop}
 use lib.Seq.{drop-drop, take-suc, take-all, take-append-le, length-take-le}
 use Rattle.roles.specs.Tests.{eq-or-ne}
 use Rattle.queries.specs.Query.{Answered}
+use Rattle.queries.specs.Input.{Broken}
 use Rattle.transcripts.specs.Lines.{answer-line}
 use Rattle.transcripts.specs.Transcript.{Transcript}
 use Rattle.transcripts.specs.Transcript.Transcript.{answered}
-use Rattle.transcripts.specs.TranscriptLaws.{next-whole, next-part}
-use Rattle.answerer.specs.Batch.{told, Broken, Batched, Batches}
+use Rattle.transcripts.specs.TranscriptLaws.{next-nothing, next-whole, next-part}
+use Rattle.answerer.specs.Batch.{told, Batched, Batches}
 use Rattle.answerer.specs.Batch.Batched.{none, more}
 use Rattle.answerer.specs.declared.batch.Batch.{Batch}
 use Rattle.transcriber.specs.declared.block.Progress.{Progress}
@@ -23,7 +24,6 @@ use Rattle.transcriber.specs.declared.block.Run.{Run}
 use Rattle.transcriber.specs.Puts.{Puts}
 use Rattle.transcriber.specs.PutsLaws.{puts-none, puts-then, puts-length}
 use Rattle.transcriber.specs.Said.{answer-lines}
-use Rattle.transcriber.specs.FoundLaws.{next-nothing}
 use Rattle.transcriber.specs.Advances.{Advanced, Stopped, Advances, Runs}
 use Rattle.transcriber.specs.Advances.Stopped.{nothing-left, part-left, full, counted-out}
 

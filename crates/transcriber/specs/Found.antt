@@ -1,15 +1,14 @@
 -- What the code finds at the front of some input.
 use mathlib.Core.List.{List}
 use mathlib.Core.Path.{_≡_}
-use Prim.Native.Nat.{ℕ, _+_, _≤_}
-use lib.ListN.{length}
+use Prim.Native.Nat.{ℕ}
+use Rattle.queries.specs.Input as input
 use Rattle.transcripts.specs.Transcript.{next}
 use Rattle.transcripts.specs.Transcript.Next.{nothing, part}
-use Rattle.transcripts.specs.TranscriptLaws.{links-of}
 use Rattle.transcriber.specs.declared.question.Question.{Question}
 use Rattle.transcriber.specs.declared.question.Question.the-variants.{Nothing, Part, Whole}
 
 pub data Found (s : List ℕ) : Question → Type 0 where
   found-nothing : next s ≡ nothing → Found s Nothing
   found-part : next s ≡ part → Found s Part
-  found-whole : (links : ℕ) → links ≡ links-of s → 3 + links ≤ length s → Found s (Whole links)
+  found-whole : input.Whole s → Found s Whole

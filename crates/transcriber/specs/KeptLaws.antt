@@ -9,15 +9,15 @@ use borrow.Author.Tests.{le-leb, lt-leb}
 use lib.Dec.{leb}
 use lib.ListN.{length, getD, set, take}
 use lib.Seq.{slice, length-slice, getD-drop, getD-take, take-all}
+use Rattle.texts.specs.Text.{between}
 use Rattle.transcriber.specs.Puts.{Puts}
 use Rattle.transcriber.specs.PutsLaws.{puts-none, puts-next, puts-rest}
-use Rattle.transcriber.specs.Advances.{kept}
 
 -- no such places
-pub kept-turned : (s : List ℕ) (from end : ℕ) → end < from → Puts s 0 (kept from end s) s 0
+pub kept-turned : (s : List ℕ) (from end : ℕ) → end < from → Puts s 0 (between from end s) s 0
 kept-turned s from end h = rw (lt-leb from end h) (puts-none s 0 (omega arith))
 
-pub kept-outside : (s : List ℕ) (from end : ℕ) → length s < end → Puts s 0 (kept from end s) s 0
+pub kept-outside : (s : List ℕ) (from end : ℕ) → length s < end → Puts s 0 (between from end s) s 0
 kept-outside s from end h = rw (lt-leb end (length s) h, and-false (leb from end)) (puts-none s 0 (omega arith))
 
 module _ (s : List ℕ) (from end : ℕ) (h : from ≤ end) (l : end ≤ length s) where
@@ -48,7 +48,7 @@ module _ (s : List ℕ) (from end : ℕ) (h : from ≤ end) (l : end ≤ length 
       rw (unmoved s′ i k p) (rw (zero-add i) at next)
 
   pub moved-all : (s′ : List ℕ) (i : ℕ) → i ≤ end - from → end - from ≤ i → Puts s 0 (take i (slice from end s)) s′ (0 + i)
-      → Puts s 0 (kept from end s) s′ i
+      → Puts s 0 (between from end s) s′ i
   moved-all s′ i most least p =
       let whole : take i (slice from end s) ≡ slice from end s = take-all i (slice from end s) (omega (arith, size, least)) in
       rw (le-leb from end h, le-leb end (length s) l) (rw (whole, zero-add i) at p)

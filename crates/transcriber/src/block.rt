@@ -2,8 +2,9 @@
 ghost use mathlib.Core.Path.{_≡_};
 ghost use Prim.Native.Nat.{_+_, _*_, _<_, _≤_};
 ghost use lib.ListN.{length, take};
+ghost use Rattle.texts.specs.Text.{between};
 ghost use Rattle.transcriber.specs.Puts.{Puts};
-ghost use Rattle.transcriber.specs.Advances.{Advances, Runs, kept};
+ghost use Rattle.transcriber.specs.Advances.{Advances, Runs};
 use crate::line::put_answers;
 use builder::Counts;
 
@@ -128,7 +129,7 @@ fn lines_in(room: usize, number: u64) -> usize
 
 // Moves the bytes from one place up to another to the front of the buffer, and returns how many there are; none where there are no such places.
 pub fn keep(buffer: &mut [u8], from: usize, end: usize) -> usize
-    ensures { λ r. ⌜ Puts (now (buffer .entry)) 0 (kept from end (now (buffer .entry))) (now (buffer .exit)) r ⌝ }
+    ensures { λ r. ⌜ Puts (now (buffer .entry)) 0 (between from end (now (buffer .entry))) (now (buffer .exit)) r ⌝ }
 {
     if end < from {
         return 0;

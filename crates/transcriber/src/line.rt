@@ -89,11 +89,11 @@ fn put_refusal(out: &mut [u8], at: usize, cause: u64) -> usize
 pub fn last_line(number: u64, input: &[u8], out: &mut [u8; 64]) -> usize
     ensures { λ r. ⌜ Puts (now (out .entry)) 0 (ending number (now (input .entry))) (now (out .exit)) r ⌝ }
 {
-    let found = find(input, 0);
+    let found = find(input);
     match found {
         Question::Nothing => 0,
         Question::Part => put_cut(out, number),
-        Question::Whole(_) => 0,
+        Question::Whole => 0,
     }
 }
 

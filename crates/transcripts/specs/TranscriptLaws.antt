@@ -9,16 +9,19 @@ use lib.ListN.{length, getD, take, drop, length-append}
 use lib.Seq.{take-append-le, drop-append-le, drop-drop}
 use Rattle.roles.specs.Role.{Chain}
 use Rattle.format.specs.Result.{Result}
-use Rattle.transcripts.specs.Transcript.{Next, next, Transcript}
-use Rattle.transcripts.specs.Transcript.Next.{part, whole}
+use Rattle.queries.specs.Input.{links-of, Whole, Broken}
+use Rattle.transcripts.specs.Transcript.{next, Transcript}
+use Rattle.transcripts.specs.Transcript.Next.{nothing, part, whole}
 use Rattle.transcripts.specs.Transcript.Transcript.{ended, cut, answered}
 
--- how many links a question says that it has
-abbrev pub links-of : List ℕ → ℕ
-links-of s = getD s 1 0 + 256 * getD s 2 0
+-- there is nothing
+pub next-nothing : (s : List ℕ) → length s ≡ 0 → next s ≡ nothing
+unfolding next
+next-nothing [] e = refl
+next-nothing (x ∷ s) e = absurd (let f : ⊥ = omega (arith, e) in f)
 
 -- the question at the front is whole, and stays so where the input goes on
-pub next-whole : (s more : List ℕ) → 3 + links-of s ≤ length s
+pub next-whole : (s more : List ℕ) → Whole s
     → next (s ++ more) ≡ whole (getD s 0 0) (take (links-of s) (drop 3 s)) (drop (3 + links-of s) s ++ more)
 unfolding next
 next-whole [] more h = absurd (let f : ⊥ = omega (arith, h) in f)
@@ -37,7 +40,7 @@ next-whole (r ∷ low ∷ high ∷ s) more h =
     refl
 
 -- there is only a part of a question
-pub next-part : (s : List ℕ) → 1 ≤ length s → length s < 3 + links-of s → next s ≡ part
+pub next-part : (s : List ℕ) → 1 ≤ length s → Broken s → next s ≡ part
 unfolding next
 next-part [] some h = absurd (let f : ⊥ = omega (arith, some) in f)
 next-part (r ∷ []) some h = refl

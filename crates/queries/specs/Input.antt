@@ -1,0 +1,15 @@
+-- Questions that follow one another on an input: each a role byte, the number of its links, 16 bits, low byte first, and the links.
+use mathlib.Core.List.{List}
+use Prim.Native.Nat.{ℕ, _+_, _*_, _<_, _≤_}
+use lib.ListN.{length, getD}
+
+-- how many links the question at the front of s says that it has
+abbrev pub links-of : List ℕ → ℕ
+links-of s = getD s 1 0 + 256 * getD s 2 0
+
+-- the question at the front of s is whole, or not
+abbrev pub Whole : List ℕ → Type 0
+Whole s = 3 + links-of s ≤ length s
+
+abbrev pub Broken : List ℕ → Type 0
+Broken s = length s < 3 + links-of s
