@@ -1,13 +1,13 @@
 -- What an answer says, in document 01's numbers.
 use mathlib.Core.Bool.{Bool, true, false}
 use Rattle.format.specs.Result.{Result}
-use Rattle.format.specs.Result.Result.{refused, accepted}
+use Rattle.format.specs.Result.Result.{refused, ok}
 use Rattle.questions.specs.Question.{cause-of}
 use Rattle.answerer.specs.declared.Answer.{Answer}
 use Rattle.answerer.specs.declared.Answer.the-variants.{Yes, No, Refused}
 
 -- yes, no, or the refusal by its number; the value beside it is 0
 abbrev pub says : Answer → Result Bool
-says Yes = accepted true
-says No = accepted false
+says Yes = ok true
+says No = ok false
 says (Refused refusal) = refused (cause-of refusal) 0

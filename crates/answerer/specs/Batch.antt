@@ -6,7 +6,7 @@ use mathlib.Core.Path.{_≡_}
 use Prim.Native.Nat.{ℕ, zero, suc, _+_, _*_, _<_, _≤_}
 use lib.ListN.{length, getD, take, drop}
 use Rattle.format.specs.Result.{Result}
-use Rattle.format.specs.Result.Result.{refused, accepted}
+use Rattle.format.specs.Result.Result.{refused, ok}
 use Rattle.queries.specs.Query.{tables-fit, Answered}
 use Rattle.queries.specs.Input.{links-of, Whole, Broken}
 use Rattle.simulation.specs.Transitions.{transition-count}
@@ -15,8 +15,8 @@ use Rattle.answerer.specs.declared.batch.Batch.{Batch}
 
 -- what a byte says: no, yes, or a refusal by its number
 abbrev pub told : ℕ → Result Bool
-told zero = accepted false
-told (suc zero) = accepted true
+told zero = ok false
+told (suc zero) = ok true
 told (suc (suc n)) = refused (suc (suc n)) 0
 
 module _ (heads moves : List ℕ) where

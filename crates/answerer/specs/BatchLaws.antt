@@ -9,7 +9,7 @@ use lib.ListN.{length, getD, set, take, drop, length-set, length-drop}
 use lib.Seq.{getD-drop, drop-drop, take-suc-set, drop-set-lt}
 use Rattle.format.specs.Result.Result.{refused}
 use Rattle.queries.specs.Query.{query, Answered}
-use Rattle.queries.specs.Query.Answered.{turned-away}
+use Rattle.queries.specs.Query.Answered.{refuses}
 use Rattle.queries.specs.Input.{links-of, Broken}
 use Rattle.questions.specs.Question.{cause-of}
 use Rattle.questions.specs.declared.refusal.QueryRefusal.{QueryRefusal}
@@ -122,9 +122,9 @@ small-cause Role = omega arith
 
 pub refused-told : (heads moves : List ℕ) (r : ℕ) (w : List ℕ) (x : QueryRefusal) → query heads moves r w ≡ refused (cause-of x) 0 → (b : ℕ) → b ≡ cause-of x
     → Answered heads moves r w (told b)
-refused-told heads moves r w Tables e b d = rw d (turned-away 12 0 e)
-refused-told heads moves r w Chain e b d = rw d (turned-away 13 0 e)
-refused-told heads moves r w Role e b d = rw d (turned-away 14 0 e)
+refused-told heads moves r w Tables e b d = rw d (refuses 12 0 e)
+refused-told heads moves r w Chain e b d = rw d (refuses 13 0 e)
+refused-told heads moves r w Role e b d = rw d (refuses 14 0 e)
 
 pub few-taken : (n : ℕ) (s : List ℕ) → length (take n s) ≤ n
 few-taken zero s = omega arith

@@ -3,7 +3,7 @@
 ghost use mathlib.Core.Path.{_≡_};
 ghost use Prim.Native.Nat.{_+_, _<_, _≤_};
 ghost use lib.ListN.{length};
-ghost use Rattle.format.specs.Result.Result.{accepted};
+ghost use Rattle.format.specs.Result.Result.{ok};
 ghost use Rattle.queries.specs.Query.{query, asked, Accepts, Answered};
 ghost use Rattle.simulation.specs.Decides.{Decides};
 ghost use Rattle.simulation.specs.Transitions.{transition-count, Fit};
@@ -53,7 +53,7 @@ pub fn ask(heads: &[u16], moves: &[u16], role: u8, chain: &[u8]) -> Answer
 
 // Whether a path from the name's initial state to its final one spells the chain, or its inverse for the inverse of a name.
 fn accepts(heads: &[u16], moves: &[u16], role: u8, chain: &[u8]) -> bool
-    requires { ⌜ query (now heads) (now moves) role (now chain) ≡ accepted tt ⌝ }
+    requires { ⌜ query (now heads) (now moves) role (now chain) ≡ ok tt ⌝ }
     ensures { λ r. ⌜ Decides r (Accepts (now (heads .entry)) (now (moves .entry)) role (now (chain .entry))) ⌝ }
 {
     let head = heads[name(role) as usize] as usize;

@@ -18,8 +18,8 @@ use Rattle.roles.specs.Tests.{eq-or-ne}
 use Rattle.order.specs.Regular.{Regular}
 use Rattle.tables.specs.Tables.{Transition, transitions, numbers}
 use Rattle.format.specs.Result.{Result}
-use Rattle.format.specs.Result.Result.{refused, accepted}
-use Rattle.format.specs.ResultLaws.{refused-accepted}
+use Rattle.format.specs.Result.Result.{refused, ok}
+use Rattle.format.specs.ResultLaws.{refused-ok}
 use Rattle.format.specs.Format.{read, named}
 use Rattle.format.specs.ReadLaws.{read-names, read-some-name, read-few-names}
 use Rattle.causes.specs.Ordered.{ordered, Judged}
@@ -94,15 +94,15 @@ asked-inverse : (r : ℕ) (w : Chain) → polarity r ≡ 1 → asked r w ≡ inv
 unfolding asked
 asked-inverse r w h = rw (eq-eqb (polarity r) 1 h) refl
 
-judged-regular : (b : Book) (r : Result Book) → Judged b r → r ≡ accepted b → Regular (b .rules)
+judged-regular : (b : Book) (r : Result Book) → Judged b r → r ≡ ok b → Regular (b .rules)
 judged-regular b _ (has-order g) h = g
-judged-regular b _ (none k l front bad) h = absurd (refused-accepted 8 k b h)
+judged-regular b _ (none k l front bad) h = absurd (refused-ok 8 k b h)
 
-module _ (s : List ℕ) (heads moves : ℕ) (b : Book) (e : built s heads moves ≡ accepted b) where
+module _ (s : List ℕ) (heads moves : ℕ) (b : Book) (e : built s heads moves ≡ ok b) where
   passed : Passed s heads moves b
   passed = built-passed heads moves s b e
 
-  well-read : read s ≡ accepted b
+  well-read : read s ≡ ok b
   well-read = ordered-read s b (passed .ordered)
 
   regular : Regular (b .rules)
@@ -134,7 +134,7 @@ module _ (s : List ℕ) (heads moves : ℕ) (b : Book) (e : built s heads moves 
 
   -- never refused
   pub never-refused : (r : ℕ) (w : Chain) → 1 ≤ length w → length w ≤ 1024 → named (b .names) (r ∷ w) ≡ true
-      → query (heads-of b) (moves-of b) r w ≡ accepted tt
+      → query (heads-of b) (moves-of b) r w ≡ ok tt
   never-refused r w some short own = query-question r w ∙ rw (le-leb 1 (length w) some, le-leb (length w) 1024 short, own) refl
 
   -- yes exactly where derived

@@ -7,22 +7,22 @@ use Rattle.roles.specs.Role.{Chain}
 use Rattle.roles.specs.Rule.{Book}
 use Rattle.roles.specs.Derivation.{Derives}
 use Rattle.format.specs.Result.{Result, and-then}
-use Rattle.format.specs.Result.Result.{refused, accepted}
+use Rattle.format.specs.Result.Result.{refused, ok}
 use Rattle.causes.specs.Built.{built}
 use Rattle.queries.specs.Query.{question}
 
 -- the answer to a question about an accepted book: the first refusal met; else yes, exactly where finitely many replacements lead from the role
 -- to the chain
 pub data Decided (b : Book) (r : ℕ) (w : Chain) : Result Bool → Type 0 where
-  turned-away : (cause value : ℕ) → question (b .names) r w ≡ refused cause value → Decided b r w (refused cause value)
-  yes : question (b .names) r w ≡ accepted tt → Derives (b .rules) r w → Decided b r w (accepted true)
-  no : question (b .names) r w ≡ accepted tt → (Derives (b .rules) r w → ⊥) → Decided b r w (accepted false)
+  refuses : (cause value : ℕ) → question (b .names) r w ≡ refused cause value → Decided b r w (refused cause value)
+  yes : question (b .names) r w ≡ ok tt → Derives (b .rules) r w → Decided b r w (ok true)
+  no : question (b .names) r w ≡ ok tt → (Derives (b .rules) r w → ⊥) → Decided b r w (ok false)
 
 -- the answer from a book's bytes, where tables of so many numbers are lent: the first refusal of causes 1 to 11; else that of the book
 pub data Replied (s : List ℕ) (heads moves : ℕ) (r : ℕ) (w : Chain) : Result Bool → Type 0 where
-  turned-away : (cause value : ℕ) → built s heads moves ≡ refused cause value → Replied s heads moves r w (refused cause value)
-  settled : (b : Book) (a : Result Bool) → built s heads moves ≡ accepted b → Decided b r w a → Replied s heads moves r w a
+  refuses : (cause value : ℕ) → built s heads moves ≡ refused cause value → Replied s heads moves r w (refused cause value)
+  settled : (b : Book) (a : Result Bool) → built s heads moves ≡ ok b → Decided b r w a → Replied s heads moves r w a
 
 -- the book that a question is put to, where tables of so many numbers are lent: causes 1 to 11, then 13 and 14
 abbrev pub posed : List ℕ → (heads moves : ℕ) → ℕ → Chain → Result Book
-posed s heads moves r w = and-then (built s heads moves) (λ b. and-then (question (b .names) r w) (λ _. accepted b))
+posed s heads moves r w = and-then (built s heads moves) (λ b. and-then (question (b .names) r w) (λ _. ok b))

@@ -6,8 +6,8 @@ use native.Mathlib.Omega.{arith}
 use lib.ListN.{length, getD}
 use Rattle.roles.specs.Rule.{Book}
 use Rattle.format.specs.Result.{Result, map-result}
-use Rattle.format.specs.ResultLaws.{accepted-injective, refused-accepted}
-use Rattle.format.specs.Result.Result.{refused, accepted}
+use Rattle.format.specs.ResultLaws.{ok-injective, refused-ok}
+use Rattle.format.specs.Result.Result.{refused, ok}
 use Rattle.format.specs.Format.{read}
 use Rattle.format.specs.ReadLaws.{read-few-names}
 use Rattle.causes.specs.Ordered as Ordered
@@ -29,20 +29,20 @@ use Rattle.builder.specs.BuiltLaws.{builds-refused}
 module _ (s : List ℕ) (o : Ordering) (a : Gather.Ordered s o) where
   -- a book that passes, by its header
   module _ (h : Header) (e : o .verdict ≡ WellFormed h) where
-    pub passed : (b : Book) × (Ordered.ordered s ≡ accepted b) × (h ≡ header-of b)
+    pub passed : (b : Book) × (Ordered.ordered s ≡ ok b) × (h ≡ header-of b)
     passed = by-result (Ordered.ordered s) refl (sym (ap says e) ∙ a .verdict)
       where
-        by-result : (r : Result Book) → Ordered.ordered s ≡ r → accepted h ≡ map-result header-of (Ordered.ordered s)
-            → (b : Book) × (Ordered.ordered s ≡ accepted b) × (h ≡ header-of b)
-        by-result (refused c v) f g = absurd (refused-accepted c v h (sym (g ∙ ap (map-result header-of) f)))
-        by-result (accepted b) f g = (b, f, accepted-injective h (header-of b) (g ∙ ap (map-result header-of) f))
+        by-result : (r : Result Book) → Ordered.ordered s ≡ r → ok h ≡ map-result header-of (Ordered.ordered s)
+            → (b : Book) × (Ordered.ordered s ≡ ok b) × (h ≡ header-of b)
+        by-result (refused c v) f g = absurd (refused-ok c v h (sym (g ∙ ap (map-result header-of) f)))
+        by-result (ok b) f g = (b, f, ok-injective h (header-of b) (g ∙ ap (map-result header-of) f))
 
-    pub fill-ready : (b : Book) × (read s ≡ accepted b) × (h .rules ≡ length (b .rules)) × Levels (o .levels) b
+    pub fill-ready : (b : Book) × (read s ≡ ok b) × (h .rules ≡ length (b .rules)) × Levels (o .levels) b
     fill-ready =
         let p = passed in
         (p .0, ordered-read s (p .0) (p .1), ap (λ (x : Header). x .rules) (p .2), a .levels (p .0) (p .1))
 
-    pub prepared : (ix : List ℕ) → ((b : Book) → read s ≡ accepted b → Levels (o .levels) b → Indexed s (b .rules) ix)
+    pub prepared : (ix : List ℕ) → ((b : Book) → read s ≡ ok b → Levels (o .levels) b → Indexed s (b .rules) ix)
         → ((x : ℕ) → x < 64 → level-in ix x ≡ getD (o .levels) x 0) → Prepared s ix (h .names)
     prepared ix filled levels =
         let p = passed in
@@ -70,4 +70,4 @@ module _ (s : List ℕ) (o : Ordering) (a : Gather.Ordered s o) where
       by-result (refused c v) f g =
           let same = g ∙ ap (map-result header-of) f in
           cc (f, same)
-      by-result (accepted b) f g = absurd (refused-accepted (cause-of r) (value-of r) (header-of b) (g ∙ ap (map-result header-of) f))
+      by-result (ok b) f g = absurd (refused-ok (cause-of r) (value-of r) (header-of b) (g ∙ ap (map-result header-of) f))

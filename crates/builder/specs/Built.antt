@@ -5,7 +5,7 @@ use Prim.Native.Nat.{ℕ, _<_, _≤_}
 use lib.ListN.{length}
 use Rattle.roles.specs.Rule.{Book}
 use Rattle.format.specs.Result.{Result, map-result}
-use Rattle.format.specs.Result.Result.{refused, accepted}
+use Rattle.format.specs.Result.Result.{refused, ok}
 use Rattle.causes.specs.Ordered
 use Rattle.layout.specs.Indexed.{Indexed, level-in}
 use Rattle.causes.specs.Built.{states-of, count-of, heads-of, moves-of, built, written}
@@ -20,13 +20,13 @@ counts-of b = record { names = b .names; states = states-of b; transitions = cou
 
 -- a build by its counts, or a refusal by its number and value
 abbrev pub says : Outcome → Result Counts
-says (Built counts) = accepted counts
+says (Built counts) = ok counts
 says (Refused refusal) = refused (cause-of refusal) (value-of refusal)
 
 -- an ordered book of so many names and its index, with levels below the number of names
 pub record Prepared (s ix : List ℕ) (names : ℕ) : Type 0 where
   pub book : Book
-  pub ordered : Ordered.ordered s ≡ accepted book
+  pub ordered : Ordered.ordered s ≡ ok book
   pub index : Indexed s (book .rules) ix
   pub same : names ≡ book .names
   pub few : names ≤ 64

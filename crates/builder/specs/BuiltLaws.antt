@@ -10,9 +10,9 @@ use lib.Seq.{sets, sets-eq}
 use Rattle.roles.specs.Tests.{lt-or-le}
 use Rattle.roles.specs.Rule.{Book}
 use Rattle.tables.specs.Tables.{numbers}
-use Rattle.format.specs.Result.Result.{refused, accepted}
+use Rattle.format.specs.Result.Result.{refused, ok}
 use Rattle.causes.specs.Built.{states-of, count-of, heads-of, moves-of, built, over}
-use Rattle.causes.specs.BuiltLaws.{built-accepted}
+use Rattle.causes.specs.BuiltLaws.{built-ok}
 use Rattle.layout.specs.Indexed.{level-in}
 use Rattle.layout.specs.Pieces.{length-numbers, length-roots}
 use Rattle.layout.specs.Sizes.{few-transitions}
@@ -28,9 +28,9 @@ use Rattle.builder.specs.Built.{counts-of, Prepared, Builds}
 pub builds-refused : (s h m : List ℕ) (x : Refusal) → built s (length h) (length m) ≡ refused (cause-of x) (value-of x) → Builds s h m h m (Refused x)
 builds-refused s h m x e = record { answer = rw e refl; heads = rw e refl; moves = rw e refl }
 
-pub builds-accepted : (s h m h′ m′ : List ℕ) (b : Book) (c : Counts) → built s (length h) (length m) ≡ accepted b → c ≡ counts-of b
+pub builds-ok : (s h m h′ m′ : List ℕ) (b : Book) (c : Counts) → built s (length h) (length m) ≡ ok b → c ≡ counts-of b
     → h′ ≡ over (heads-of b) h → m′ ≡ over (moves-of b) m → Builds s h m h′ m′ (Built c)
-builds-accepted s h m h′ m′ b c e k p q = record { answer = rw (e, k) refl; heads = rw e p; moves = rw e q }
+builds-ok s h m h′ m′ b c e k p q = record { answer = rw (e, k) refl; heads = rw e p; moves = rw e q }
 
 -- numbers stored from the front on are the new numbers over the old
 sets-over : (new old : List ℕ) → length new ≤ length old → sets old 0 new ≡ over new old
@@ -83,8 +83,8 @@ module _ (s ix : List ℕ) (names : ℕ) (p : Prepared s ix names) where
         let enough-moves : 3 * count-of (p .book) ≤ length n = rw (← count) long-moves in
         let size = length-roots (p .book .rules) (p .book .names) (p .book .names) 0 0 in
         let whole : states-of (p .book) ≤ 2048 = fits r h h′ m m′ w small in
-        builds-accepted s g n g′ n′ (p .book) _
-        (built-accepted s (length g) (length n) (p .book) (p .ordered) whole (rw (← count) short) enough-heads enough-moves)
+        builds-ok s g n g′ n′ (p .book) _
+        (built-ok s (length g) (length n) (p .book) (p .ordered) whole (rw (← count) short) enough-heads enough-moves)
         (rw (p .same, same-states r h h′ m m′ w small, count) refl)
         (own q g g′ n n′ v .places whole ∙ sets-over (heads-of (p .book)) g (rw size enough-heads))
         (own q g g′ n n′ v .exact whole (below r h h′ m m′ w small) enough-moves

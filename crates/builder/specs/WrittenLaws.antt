@@ -8,8 +8,8 @@ use lib.Seq.{take-append-seam}
 use Rattle.roles.specs.Rule.{Book}
 use Rattle.tables.specs.Tables.{transitions}
 use Rattle.format.specs.Result.{Result, map-result}
-use Rattle.format.specs.Result.Result.{refused, accepted}
-use Rattle.format.specs.ResultLaws.{refused-accepted, accepted-injective}
+use Rattle.format.specs.Result.Result.{refused, ok}
+use Rattle.format.specs.ResultLaws.{refused-ok, ok-injective}
 use Rattle.causes.specs.Built.{count-of, heads-of, moves-of, built, over}
 use Rattle.causes.specs.BuiltLaws.{Passed, built-passed}
 use Rattle.layout.specs.Pieces.{length-numbers, length-roots}
@@ -29,7 +29,7 @@ over-front n new old h = rw h (take-append-seam new (drop (length new) old))
 -- the book that a build has counted
 pub record Counted (s h m : List ℕ) (c : Counts) : Type 0 where
   pub book : Book
-  pub accepts : built s (length h) (length m) ≡ accepted book
+  pub accepts : built s (length h) (length m) ≡ ok book
   pub same : c ≡ counts-of book
 
 -- a book that stands for none
@@ -40,9 +40,9 @@ module _ (s h m h′ m′ : List ℕ) where
   pub counted : (c : Counts) → Builds s h m h′ m′ (Built c) → Counted s h m c
   counted c p = by-result (built s (length h) (length m)) refl (p .answer)
     where
-      by-result : (r : Result Book) → built s (length h) (length m) ≡ r → accepted c ≡ map-result counts-of r → Counted s h m c
-      by-result (refused cause value) e f = absurd (refused-accepted cause value c (sym f))
-      by-result (accepted b) e f = record { book = b; accepts = e; same = accepted-injective c (counts-of b) f }
+      by-result : (r : Result Book) → built s (length h) (length m) ≡ r → ok c ≡ map-result counts-of r → Counted s h m c
+      by-result (refused cause value) e f = absurd (refused-ok cause value c (sym f))
+      by-result (ok b) e f = record { book = b; accepts = e; same = ok-injective c (counts-of b) f }
 
   module _ (c : Counts) (p : Builds s h m h′ m′ (Built c)) where
     pub own : Counted s h m c
@@ -97,4 +97,4 @@ module _ (s h m h′ m′ : List ℕ) where
     where
       by-result : (t : Result Book) → says (Refused x) ≡ map-result counts-of t → t ≡ refused (cause-of x) (value-of x)
       by-result (refused cause value) f = sym (ap (map-result (λ (k : Counts). counted-none)) f)
-      by-result (accepted b) f = absurd (refused-accepted (cause-of x) (value-of x) (counts-of b) f)
+      by-result (ok b) f = absurd (refused-ok (cause-of x) (value-of x) (counts-of b) f)

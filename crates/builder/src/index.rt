@@ -4,7 +4,7 @@ ghost use mathlib.Core.Path.{_≡_};
 ghost use Prim.Native.Nat.{ℕ, _<_};
 ghost use lib.ListN.{length, getD};
 ghost use Rattle.roles.specs.Rule.{Book};
-ghost use Rattle.format.specs.Result.Result.{accepted};
+ghost use Rattle.format.specs.Result.Result.{ok};
 ghost use Rattle.format.specs.Format.{read};
 ghost use Rattle.format.specs.Place.{first-rules};
 ghost use Rattle.layout.specs.Indexed.{Indexed, place-in, next-in, first-in, level-in};
@@ -48,9 +48,9 @@ pub(crate) fn level_of(index: &[u16], x: usize) -> usize
 
 // Fills the index of a book.
 pub(crate) fn fill(book: &[u8], rules: usize, levels: &[u8], index: &mut [u16])
-    requires { ⌜ ((b : Book) × (read (now book) ≡ accepted b) × (rules ≡ length (b .rules)) × Levels (now levels) b) ⌝ }
+    requires { ⌜ ((b : Book) × (read (now book) ≡ ok b) × (rules ≡ length (b .rules)) × Levels (now levels) b) ⌝ }
     requires { ⌜ length (now index) ≡ 640 ⌝ }
-    ensures { λ _. ⌜ ((b : Book) → read (now (book .entry)) ≡ accepted b → Levels (now (levels .entry)) b
+    ensures { λ _. ⌜ ((b : Book) → read (now (book .entry)) ≡ ok b → Levels (now (levels .entry)) b
         → Indexed (now (book .entry)) (b .rules) (now (index .exit))) ⌝ }
     ensures { λ _. ⌜ ((x : ℕ) → x < 64 → level-in (now (index .exit)) x ≡ getD (now (levels .entry)) x 0) ⌝ }
 {

@@ -7,7 +7,7 @@ use lib.ListN.{length, drop}
 use Rattle.roles.specs.Rule.{Book}
 use Rattle.tables.specs.Tables.{initial-states, transitions, state-count, numbers}
 use Rattle.format.specs.Result.{Result, demand, and-then}
-use Rattle.format.specs.Result.Result.{refused, accepted}
+use Rattle.format.specs.Result.Result.{refused, ok}
 use Rattle.causes.specs.Ordered.{ordered}
 
 -- how many states and transitions the tables of a book have
@@ -30,7 +30,7 @@ fitting heads moves b =
     demand (leb (states-of b) 2048) 9 0
     (demand (leb (count-of b) 5120) 10 0
     (demand (leb (b .names) heads && leb (3 * count-of b) moves) 11 0
-    (accepted b)))
+    (ok b)))
 
 -- causes 1 to 11
 unfoldable pub built : List ℕ → (heads moves : ℕ) → Result Book
@@ -43,4 +43,4 @@ over new old = new ++ drop (length new) old
 -- what a lent table holds after the build: the new numbers and the old ones after them; the old ones alone where the build is refused
 abbrev pub written : Result Book → (Book → List ℕ) → List ℕ → List ℕ
 written (refused cause value) table old = old
-written (accepted b) table old = over (table b) old
+written (ok b) table old = over (table b) old

@@ -9,8 +9,8 @@ use lib.Dec.{leb}
 use Rattle.roles.specs.Tests.{and-left, and-right}
 use Rattle.roles.specs.Rule.{Book}
 use Rattle.format.specs.Result.{Result, demand, and-then}
-use Rattle.format.specs.Result.Result.{refused, accepted}
-use Rattle.format.specs.ResultLaws.{refused-accepted, accepted-injective, demand-test, demand-rest}
+use Rattle.format.specs.Result.Result.{refused, ok}
+use Rattle.format.specs.ResultLaws.{refused-ok, ok-injective, demand-test, demand-rest}
 use Rattle.format.specs.ReadLaws.{read-few-names}
 use Rattle.causes.specs.Ordered
 use Rattle.causes.specs.Ordered.{ordered}
@@ -22,7 +22,7 @@ module _ (s : List ℕ) (heads moves : ℕ) where
   unfolding built
   built-refused c v h = rw h refl
 
-  module _ (b : Book) (o : ordered s ≡ accepted b) where
+  module _ (b : Book) (o : ordered s ≡ ok b) where
     pub built-states : 2048 < states-of b → built s heads moves ≡ refused 9 0
     unfolding built fitting
     built-states h = rw (o, lt-leb (states-of b) 2048 h) refl
@@ -42,29 +42,29 @@ module _ (s : List ℕ) (heads moves : ℕ) where
         built-moves h =
             rw (o, le-leb (states-of b) 2048 few, le-leb (count-of b) 5120 less, lt-leb (3 * count-of b) moves h, and-false (leb (b .names) heads)) refl
 
-        pub built-accepted : b .names ≤ heads → 3 * count-of b ≤ moves → built s heads moves ≡ accepted b
+        pub built-ok : b .names ≤ heads → 3 * count-of b ≤ moves → built s heads moves ≡ ok b
         unfolding built fitting
-        built-accepted h k =
+        built-ok h k =
             rw (o, le-leb (states-of b) 2048 few, le-leb (count-of b) 5120 less, le-leb (b .names) heads h, le-leb (3 * count-of b) moves k) refl
 
 -- what an accepted book has passed
 pub record Passed (s : List ℕ) (heads moves : ℕ) (b : Book) : Type 0 where
-  pub ordered : Ordered.ordered s ≡ accepted b
+  pub ordered : Ordered.ordered s ≡ ok b
   pub states : states-of b ≤ 2048
   pub count : count-of b ≤ 5120
   pub names : b .names ≤ heads
   pub numbers : 3 * count-of b ≤ moves
 
 module _ (heads moves : ℕ) where
-  fitted-same : (d b : Book) → fitting heads moves d ≡ accepted b → d ≡ b
+  fitted-same : (d b : Book) → fitting heads moves d ≡ ok b → d ≡ b
   unfolding fitting
   fitted-same d b h =
-      accepted-injective d b
+      ok-injective d b
       (demand-rest (leb (d .names) heads && leb (3 * count-of d) moves) 11 0 _ b
       (demand-rest (leb (count-of d) 5120) 10 0 _ b
       (demand-rest (leb (states-of d) 2048) 9 0 _ b h)))
 
-  passed : (s : List ℕ) (b : Book) → ordered s ≡ accepted b → fitting heads moves b ≡ accepted b → Passed s heads moves b
+  passed : (s : List ℕ) (b : Book) → ordered s ≡ ok b → fitting heads moves b ≡ ok b → Passed s heads moves b
   unfolding fitting
   passed s b o h =
       let second = demand-rest (leb (states-of b) 2048) 9 0 _ b h in
@@ -78,15 +78,15 @@ module _ (heads moves : ℕ) where
         numbers = leb-true (3 * count-of b) moves (and-right (leb (b .names) heads) (leb (3 * count-of b) moves) lent);
       }
 
-  pub built-passed : (s : List ℕ) (b : Book) → built s heads moves ≡ accepted b → Passed s heads moves b
+  pub built-passed : (s : List ℕ) (b : Book) → built s heads moves ≡ ok b → Passed s heads moves b
   unfolding built
   built-passed s b e = by-result (ordered s) refl e
     where
-      by-result : (r : Result Book) → ordered s ≡ r → and-then r (fitting heads moves) ≡ accepted b → Passed s heads moves b
-      by-result (refused c v) f g = absurd (refused-accepted c v b g)
-      by-result (accepted d) f g =
+      by-result : (r : Result Book) → ordered s ≡ r → and-then r (fitting heads moves) ≡ ok b → Passed s heads moves b
+      by-result (refused c v) f g = absurd (refused-ok c v b g)
+      by-result (ok d) f g =
           let same : d ≡ b = fitted-same d b g in
-          passed s b (f ∙ ap accepted same) (subst (λ (d : Book). fitting heads moves d ≡ accepted b) same g)
+          passed s b (f ∙ ap ok same) (subst (λ (d : Book). fitting heads moves d ≡ ok b) same g)
 
 -- no more than 64 heads and 15,360 moves are needed: tables lent so long serve as longer ones do
 module _ (heads moves heads′ moves′ : ℕ) (f : (n : ℕ) → n ≤ 64 → leb n heads ≡ leb n heads′)
@@ -96,8 +96,8 @@ module _ (heads moves heads′ moves′ : ℕ) (f : (n : ℕ) → n ≤ 64 → l
   fitting-enough b few = ap (demand (leb (states-of b) 2048) 9 0) (by-count (leb (count-of b) 5120) refl)
     where
       by-count : (t : Bool) → leb (count-of b) 5120 ≡ t
-          → demand t 10 0 (demand (leb (b .names) heads && leb (3 * count-of b) moves) 11 0 (accepted b))
-          ≡ demand t 10 0 (demand (leb (b .names) heads′ && leb (3 * count-of b) moves′) 11 0 (accepted b))
+          → demand t 10 0 (demand (leb (b .names) heads && leb (3 * count-of b) moves) 11 0 (ok b))
+          ≡ demand t 10 0 (demand (leb (b .names) heads′ && leb (3 * count-of b) moves′) 11 0 (ok b))
       by-count false e = refl
       by-count true e =
           let l : count-of b ≤ 5120 = leb-true (count-of b) 5120 e in
@@ -109,4 +109,4 @@ module _ (heads moves heads′ moves′ : ℕ) (f : (n : ℕ) → n ≤ 64 → l
     where
       by-result : (r : Result Book) → ordered s ≡ r → and-then r (fitting heads moves) ≡ and-then r (fitting heads′ moves′)
       by-result (refused c v) e = refl
-      by-result (accepted b) e = fitting-enough b (read-few-names s b (ordered-read s b e))
+      by-result (ok b) e = fitting-enough b (read-few-names s b (ordered-read s b e))

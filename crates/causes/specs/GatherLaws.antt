@@ -10,8 +10,8 @@ use Rattle.roles.specs.Rule.{Rule, Book}
 use Rattle.order.specs.Closure.{no-order, with-rule, clashes}
 use Rattle.order.specs.ClosureLaws.{Closed, closed-none, closed-with}
 use Rattle.format.specs.Result.{Result, and-then, map-result}
-use Rattle.format.specs.Result.Result.{refused, accepted}
-use Rattle.format.specs.ResultLaws.{refused-accepted, accepted-injective, demand-rest}
+use Rattle.format.specs.Result.Result.{refused, ok}
+use Rattle.format.specs.ResultLaws.{refused-ok, ok-injective, demand-rest}
 use Rattle.format.specs.Format.{read}
 use Rattle.format.specs.ReadLaws.{rules-some}
 use Rattle.causes.specs.Ordered.{order-from, ordered, Judged}
@@ -32,10 +32,10 @@ module _ (b : Book) (k : ℕ) (lower : ℕ → ℕ → Bool) (g : Gathering b k 
 
     pub gathering-next : (ρ .left ≡ [] → ⊥) → clashes lower ρ ≡ false → Gathering b (k + 1) (with-rule lower ρ)
     unfolding order-from
-    gathering-next some calm =
+    gathering-next some extends =
         record {
-          closed = rw (add-one, take-suc (b .rules) k ρ h, e) (closed-with (take k (b .rules)) lower (g .closed) ρ some calm);
-          rest = next ∙ rw (calm, add-one) refl;
+          closed = rw (add-one, take-suc (b .rules) k ρ h, e) (closed-with (take k (b .rules)) lower (g .closed) ρ some extends);
+          rest = next ∙ rw (extends, add-one) refl;
         }
 
     pub gathering-clash : clashes lower ρ ≡ true → order-from b no-order 0 (b .rules) ≡ refused 8 k
@@ -43,7 +43,7 @@ module _ (b : Book) (k : ℕ) (lower : ℕ → ℕ → Bool) (g : Gathering b k 
     gathering-clash clash = next ∙ rw clash refl
 
   module _ (h : length (b .rules) ≤ k) where
-    pub gathering-end : order-from b no-order 0 (b .rules) ≡ accepted b
+    pub gathering-end : order-from b no-order 0 (b .rules) ≡ ok b
     unfolding order-from
     gathering-end = g .rest ∙ rw (drop-of-length-le (b .rules) h) refl
 
@@ -51,28 +51,28 @@ module _ (b : Book) (k : ℕ) (lower : ℕ → ℕ → Bool) (g : Gathering b k 
     gathering-closed = rw (take-all k (b .rules) h) at (g .closed)
 
 -- causes 1 to 8, for a well-formed book
-pub ordered-from : (s : List ℕ) (b : Book) → read s ≡ accepted b → ordered s ≡ order-from b no-order 0 (b .rules)
+pub ordered-from : (s : List ℕ) (b : Book) → read s ≡ ok b → ordered s ≡ order-from b no-order 0 (b .rules)
 unfolding ordered
 ordered-from s b h = rw h refl
 
-pub ordered-judged : (s : List ℕ) (b : Book) → read s ≡ accepted b → Judged b (ordered s)
+pub ordered-judged : (s : List ℕ) (b : Book) → read s ≡ ok b → Judged b (ordered s)
 ordered-judged s b h = rw (ordered-from s b h) (judged b (rules-some s b h))
 
 -- cause 8 keeps the book
-order-book : (b : Book) (lower : ℕ → ℕ → Bool) (k : ℕ) (ρs : List Rule) (d : Book) → order-from b lower k ρs ≡ accepted d → b ≡ d
+order-book : (b : Book) (lower : ℕ → ℕ → Bool) (k : ℕ) (ρs : List Rule) (d : Book) → order-from b lower k ρs ≡ ok d → b ≡ d
 unfolding order-from
-order-book b lower k [] d h = accepted-injective b d h
+order-book b lower k [] d h = ok-injective b d h
 order-book b lower k (ρ ∷ ρs) d h =
     order-book b (with-rule lower ρ) (suc k) ρs d
     (demand-rest (not (clashes lower ρ)) 8 k (order-from b (with-rule lower ρ) (suc k) ρs) d h)
 
-pub ordered-read : (s : List ℕ) (b : Book) → ordered s ≡ accepted b → read s ≡ accepted b
+pub ordered-read : (s : List ℕ) (b : Book) → ordered s ≡ ok b → read s ≡ ok b
 unfolding ordered
 ordered-read s b h = by-result (read s) h
   where
-    by-result : (r : Result Book) → and-then r (λ b. order-from b no-order 0 (b .rules)) ≡ accepted b → r ≡ accepted b
-    by-result (refused c v) e = absurd (refused-accepted c v b e)
-    by-result (accepted d) e = ap accepted (order-book d no-order 0 (d .rules) b e)
+    by-result : (r : Result Book) → and-then r (λ b. order-from b no-order 0 (b .rules)) ≡ ok b → r ≡ ok b
+    by-result (refused c v) e = absurd (refused-ok c v b e)
+    by-result (ok d) e = ap ok (order-book d no-order 0 (d .rules) b e)
 
 -- what causes 1 to 7 refuse is refused so
 pub ordered-refused : {A : Type 0} (f : Book → A) (s : List ℕ) (c v : ℕ) → refused c v ≡ map-result f (read s) → ordered s ≡ refused c v
@@ -81,4 +81,4 @@ ordered-refused f s c v h = by-result (read s) h
   where
     by-result : (r : Result Book) → refused c v ≡ map-result f r → and-then r (λ b. order-from b no-order 0 (b .rules)) ≡ refused c v
     by-result (refused c′ v′) e = cc
-    by-result (accepted b) e = absurd (refused-accepted c v (f b) e)
+    by-result (ok b) e = absurd (refused-ok c v (f b) e)

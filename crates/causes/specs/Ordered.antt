@@ -9,12 +9,12 @@ use Rattle.roles.specs.Rule.{Rule, Book}
 use Rattle.order.specs.Closure.{no-order, with-rule, clashes}
 use Rattle.order.specs.Regular.{Regular}
 use Rattle.format.specs.Result.{Result, demand, and-then}
-use Rattle.format.specs.Result.Result.{refused, accepted}
+use Rattle.format.specs.Result.Result.{refused, ok}
 use Rattle.format.specs.Format.{read}
 
 -- the rules from a number on, after those that gave the order so far
 unfoldable pub order-from : Book → (ℕ → ℕ → Bool) → (number : ℕ) → List Rule → Result Book
-order-from b lower number [] = accepted b
+order-from b lower number [] = ok b
 order-from b lower number (ρ ∷ ρs) = demand (not (clashes lower ρ)) 8 number (order-from b (with-rule lower ρ) (suc number) ρs)
 
 -- causes 1 to 8
@@ -24,7 +24,7 @@ ordered s = and-then (read s) (λ b. order-from b no-order 0 (b .rules))
 -- what document 01 asks of cause 8, for a well-formed book
 pub data Judged (b : Book) : Result Book → Type 0 where
   -- there is a regular order
-  has-order : Regular (b .rules) → Judged b (accepted b)
+  has-order : Regular (b .rules) → Judged b (ok b)
   -- every front part of k rules or fewer has one, and the front part that ends with rule k has none
   none : (k : ℕ) → k < length (b .rules) → ((j : ℕ) → j ≤ k → Regular (take j (b .rules))) → (Regular (take (suc k) (b .rules)) → ⊥)
       → Judged b (refused 8 k)

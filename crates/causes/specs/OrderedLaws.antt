@@ -14,7 +14,7 @@ use Rattle.order.specs.Closure.{no-order, with-rule, clashes}
 use Rattle.order.specs.ClosureLaws.{Closed, closed-none, closed-with}
 use Rattle.order.specs.Decide.{closed-regular, clash-irregular, regular-front}
 use Rattle.format.specs.Result.{Result, demand}
-use Rattle.format.specs.Result.Result.{refused, accepted}
+use Rattle.format.specs.Result.Result.{refused, ok}
 use Rattle.causes.specs.Ordered.{order-from, ordered, Judged}
 use Rattle.causes.specs.Ordered.Judged.{has-order, none}
 

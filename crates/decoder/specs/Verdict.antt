@@ -2,7 +2,7 @@
 use lib.ListN.{length}
 use Rattle.roles.specs.Rule.{Book}
 use Rattle.format.specs.Result.{Result}
-use Rattle.format.specs.Result.Result.{refused, accepted}
+use Rattle.format.specs.Result.Result.{refused, ok}
 use Rattle.decoder.specs.declared.verdict.Header.{Header}
 use Rattle.decoder.specs.declared.verdict.Verdict.{Verdict}
 use Rattle.decoder.specs.declared.verdict.Verdict.the-variants.{WellFormed, Refused}
@@ -14,5 +14,5 @@ header-of b = record { names = b .names; rules = length (b .rules) }
 
 -- a verdict: a well-formed book by its header, or a refusal by its number and value
 abbrev pub says : Verdict → Result Header
-says (WellFormed header) = accepted header
+says (WellFormed header) = ok header
 says (Refused refusal) = refused (cause-of refusal) (value-of refusal)

@@ -6,7 +6,7 @@ use Prim.Native.Nat.{ℕ}
 use lib.ListN.{length}
 use Rattle.roles.specs.Role.{Chain}
 use Rattle.format.specs.Result.{Result}
-use Rattle.format.specs.Result.Result.{refused, accepted}
+use Rattle.format.specs.Result.Result.{refused, ok}
 use Rattle.causes.specs.Built.{heads-of, moves-of, written}
 use Rattle.answers.specs.Reply.{Replied, posed}
 use Rattle.refusals.specs.Refusal.{cause-of, value-of}
@@ -16,8 +16,8 @@ use Rattle.deriver.specs.declared.Reply.the-variants.{Yes, No, Book, Que
 
 -- yes, no, or a refusal by its number and value
 abbrev pub says : Reply → Result Bool
-says Yes = accepted true
-says No = accepted false
+says Yes = ok true
+says No = ok false
 says (Book refusal) = refused (cause-of refusal) (value-of refusal)
 says (Question refusal) = refused (question-cause-of refusal) 0
 

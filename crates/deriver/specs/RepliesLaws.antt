@@ -7,12 +7,12 @@ use lib.ListN.{length, getD, take}
 use Rattle.roles.specs.Role.{Chain}
 use Rattle.roles.specs.Rule.{Book}
 use Rattle.format.specs.Result.{Result, and-then}
-use Rattle.format.specs.Result.Result.{refused, accepted}
+use Rattle.format.specs.Result.Result.{refused, ok}
 use Rattle.causes.specs.Built.{heads-of, moves-of, built, written}
 use Rattle.causes.specs.BuiltLaws.{built-enough}
 use Rattle.queries.specs.Query.{question, Answered}
 use Rattle.answers.specs.Reply.{posed}
-use Rattle.answers.specs.Reply.Replied.{turned-away, settled}
+use Rattle.answers.specs.Reply.Replied.{refuses, settled}
 use Rattle.answers.specs.ReplyLaws.{decided, posed-fits, posed-refused, replied-refused}
 use Rattle.refusals.specs.declared.refusal.Refusal.{Refusal}
 use Rattle.refusals.specs.Refusal.{cause-of, value-of}
@@ -26,7 +26,7 @@ use Rattle.builder.specs.declared.Outcome.the-variants.{Built, Refused}
 use Rattle.builder.specs.Built.{Builds}
 use Rattle.builder.specs.WrittenLaws.{own, written-heads, written-moves, refused-by}
 use Rattle.deriver.specs.declared.Reply.{Reply}
-use Rattle.deriver.specs.declared.Reply.the-variants.{Question, Book as Turned}
+use Rattle.deriver.specs.declared.Reply.the-variants.{Question, Book as Refused-book}
 use Rattle.deriver.specs.Replies.{says, Replies}
 
 -- what the tables answer, as a reply
@@ -42,7 +42,7 @@ found s n r w e x y h f = sym (ap (λ (k : ℕ). question k r w) e) ∙ sym h �
 -- a question that is refused writes nothing
 kept : (t : Result Book) (c v : ℕ) (table : Book → List ℕ) (old : List ℕ) → written (and-then t (λ _. refused c v)) table old ≡ old
 kept (refused d u) c v table old = refl
-kept (accepted b) c v table old = refl
+kept (ok b) c v table old = refl
 
 pub replies-kept : (s h m : List ℕ) (r : ℕ) (w : Chain) (c v : ℕ) → question (getD s 5 0) r w ≡ refused c v → (a : Reply)
     → says a ≡ and-then (built s (length h) (length m)) (λ _. refused c v) → Replies s h m r w h m a
@@ -62,14 +62,14 @@ module _ (s h m h′ m′ : List ℕ) where
     same = rw (i, j) (built-enough a b heads moves f g s)
 
     pub says-book : (y : Refusal) → Builds s h m h′ m′ (Refused y)
-        → says (Turned y) ≡ and-then (built s heads moves) (λ _. refused (question-cause-of x) 0)
+        → says (Refused-book y) ≡ and-then (built s heads moves) (λ _. refused (question-cause-of x) 0)
     says-book y p = rw (sym same ∙ refused-by s h m h′ m′ y p) refl
 
     pub says-question : (c : Counts) → Builds s h m h′ m′ (Built c)
         → says (Question x) ≡ and-then (built s heads moves) (λ _. refused (question-cause-of x) 0)
     says-question c p = rw (sym same ∙ own s h m h′ m′ c p .accepts) refl
 
-  module _ (r : ℕ) (w : Chain) (q : question (getD s 5 0) r w ≡ accepted tt) where
+  module _ (r : ℕ) (w : Chain) (q : question (getD s 5 0) r w ≡ ok tt) where
     put-to : posed s (length h) (length m) r w ≡ built s (length h) (length m)
     put-to = posed-fits s (length h) (length m) r w q
 
@@ -86,10 +86,10 @@ module _ (s h m h′ m′ : List ℕ) where
           moves = rw put-to (p .moves);
         }
 
-    pub replies-refused : (x : Refusal) → Builds s h m h′ m′ (Refused x) → Replies s h m r w h′ m′ (Turned x)
+    pub replies-refused : (x : Refusal) → Builds s h m h′ m′ (Refused x) → Replies s h m r w h′ m′ (Refused-book x)
     replies-refused x p =
         record {
-          answer = turned-away (cause-of x) (value-of x) (refused-by s h m h′ m′ x p);
+          answer = refuses (cause-of x) (value-of x) (refused-by s h m h′ m′ x p);
           heads = rw put-to (p .heads);
           moves = rw put-to (p .moves);
         }

@@ -4,7 +4,7 @@ ghost use Prim.Native.Nat.{ℕ, _≤_};
 ghost use lib.Dec.{leb};
 ghost use lib.ListN.{length, getD, take};
 ghost use Rattle.format.specs.Result.{and-then};
-ghost use Rattle.format.specs.Result.Result.{refused, accepted};
+ghost use Rattle.format.specs.Result.Result.{refused, ok};
 ghost use Rattle.causes.specs.Built.{built};
 ghost use Rattle.queries.specs.Query.{question, Answered};
 ghost use Rattle.questions.specs.Question.{cause-of};
@@ -80,7 +80,7 @@ fn least(a: usize, b: usize) -> usize
 
 // The reply to a question that is not refused, by the tables of the book, built in the lent ones.
 fn decide(book: &[u8], heads: &mut [u16], moves: &mut [u16], role: u8, chain: &[u8]) -> Reply
-    requires { ⌜ question (getD (now book) 5 0) role (now chain) ≡ accepted tt ⌝ }
+    requires { ⌜ question (getD (now book) 5 0) role (now chain) ≡ ok tt ⌝ }
     ensures { λ r. ⌜ Replies (now (book .entry)) (now (heads .entry)) (now (moves .entry)) role (now (chain .entry)) (now (heads .exit)) (now (moves .exit)) r ⌝ }
 {
     let outcome = builder::build(book, heads, moves);

@@ -12,7 +12,7 @@ use lib.ListN.{length, getD, take, drop, List·getD-eq-default}
 use Rattle.roles.specs.Tests.{and-left, and-right}
 use Rattle.roles.specs.Rule.{Rule, Book}
 use Rattle.format.specs.Result.{Result, demand}
-use Rattle.format.specs.Result.Result.{refused, accepted}
+use Rattle.format.specs.Result.Result.{refused, ok}
 use Rattle.format.specs.ResultLaws.{demand-test, demand-rest}
 use Rattle.format.specs.Format
 use Rattle.format.specs.Format.{word, rules-from, named, size-fits, mark-fits, counts-fit, decode}
@@ -83,7 +83,7 @@ pub record Decoded (s : List ℕ) (b : Book) : Type 0 where
   pub named : (k : ℕ) → k < word s 6 → Format.named (b .names) (rule-at s (rule-place s k) .right ∷ rule-at s (rule-place s k) .left) ≡ true
   pub ends : length s ≤ rule-place s (word s 6)
 
-pub decoded : (s : List ℕ) (b : Book) → decode s ≡ accepted b → Decoded s b
+pub decoded : (s : List ℕ) (b : Book) → decode s ≡ ok b → Decoded s b
 unfolding decode first-rules rule-place
 decoded s b h =
     record {
@@ -118,7 +118,7 @@ decoded s b h =
     size : Sized s
     size = sized s (demand-test (size-fits s) 1 0 from-mark b h)
 
-    rest : from-counts ≡ accepted b
+    rest : from-counts ≡ ok b
     rest =
         demand-rest (eqb (word s 3) 1) 3 0 from-counts b
         (demand-rest (mark-fits s) 2 0 from-version b (demand-rest (size-fits s) 1 0 from-mark b h))
@@ -139,7 +139,7 @@ has-rule-whole s k h j p = by-result (decode s) refl h
   where
     by-result : (r : Result Book) → decode s ≡ r → has-rule r k ≡ true → whole-at s (rule-place s j) ≡ true
     by-result (refused cause value) e h = absurd (false≢true h)
-    by-result (accepted b) e h =
+    by-result (ok b) e h =
         let d : Decoded s b = decoded s b e in
         d .whole j (omega (arith, ltb-true k (length (b .rules)) h, d .count))
 
@@ -150,7 +150,7 @@ left-none s k h = (rw h refl, by-result (decode s) h)
   where
     by-result : (r : Result Book) → has-rule r k ≡ false → [] ≡ left-side r k
     by-result (refused cause value) e = refl
-    by-result (accepted b) e =
+    by-result (ok b) e =
         sym (ap (λ (ρ : Rule). ρ .left) (List·getD-eq-default (b .rules) (record { left = []; right = 0 }) (ltb-false k (length (b .rules)) e)))
 
 pub left-some : (s : List ℕ) (k : ℕ) → has-rule (decode s) k ≡ true
@@ -160,7 +160,7 @@ left-some s k h = (rw h refl, by-result (decode s) refl h)
   where
     by-result : (r : Result Book) → decode s ≡ r → has-rule r k ≡ true → rule-at s (rule-place s k) .left ≡ left-side r k
     by-result (refused cause value) e h = absurd (false≢true h)
-    by-result (accepted b) e h =
+    by-result (ok b) e h =
         let d : Decoded s b = decoded s b e in
         let p : k < word s 6 = omega (arith, ltb-true k (length (b .rules)) h, d .count) in
         rw (d .rules) (ap (λ (ρ : Rule). ρ .left) (sym (getD-first-rules s (word s 6) k (record { left = []; right = 0 }) p)))

@@ -7,7 +7,7 @@ use lib.ListN.{length, getD, take, drop}
 use Rattle.roles.specs.Role.{Chain, same-chain}
 use Rattle.roles.specs.Rule.{Rule, Book, inverse, same-rule}
 use Rattle.format.specs.Result.{Result, demand, and-then}
-use Rattle.format.specs.Result.Result.{refused, accepted}
+use Rattle.format.specs.Result.Result.{refused, ok}
 
 -- the mark RLB
 abbrev pub mark : List ℕ
@@ -43,7 +43,7 @@ one-rule n number rest (whole ρ s) = demand (named n (ρ .right ∷ ρ .left)) 
 
 -- the book that has the rules read so far and as many more as are left, which are all of the bytes
 unfoldable pub rules-from : (names : ℕ) → List Rule → (left : ℕ) → List ℕ → Result Book
-rules-from n read zero [] = accepted (record { names = n; rules = read })
+rules-from n read zero [] = ok (record { names = n; rules = read })
 rules-from n read zero (b ∷ s) = refused 5 (length read)
 rules-from n read (suc left) s = one-rule n (length read) (λ ρ rest. rules-from n (read ++ (ρ ∷ [])) left rest) (front s)
 
@@ -73,7 +73,7 @@ repeats ρ (σ ∷ earlier) = same-rule ρ σ || same-rule ρ (inverse σ) || re
 
 -- cause 7, by the lowest rule that repeats one before it
 unfoldable pub distinct : (names : ℕ) → List Rule → List Rule → Result Book
-distinct n earlier [] = accepted (record { names = n; rules = earlier })
+distinct n earlier [] = ok (record { names = n; rules = earlier })
 distinct n earlier (ρ ∷ later) = demand (not (repeats ρ earlier)) 7 (length earlier) (distinct n (earlier ++ (ρ ∷ [])) later)
 
 -- causes 1 to 7: the well-formed book that the bytes are, or the first refusal met

@@ -14,8 +14,8 @@ use lib.Seq.{drop-cons, drop-drop, getD-at}
 use Rattle.roles.specs.Tests.{and-left, and-right, not-true-false, true-or-false, lt-or-le, eq-or-ne}
 use Rattle.roles.specs.Rule.{Rule, Book}
 use Rattle.format.specs.Result.{Result, demand}
-use Rattle.format.specs.Result.Result.{refused, accepted}
-use Rattle.format.specs.ResultLaws.{refused-accepted, accepted-injective, demand-test, demand-rest}
+use Rattle.format.specs.Result.Result.{refused, ok}
+use Rattle.format.specs.ResultLaws.{refused-ok, ok-injective, demand-test, demand-rest}
 use Rattle.format.specs.Format
 use Rattle.format.specs.Format.{Front, front, one-rule, rules-from, named}
 use Rattle.format.specs.Format.Front.{whole, malformed}
@@ -106,7 +106,7 @@ module _ (s : List ℕ) (n : ℕ) (read : List Rule) (at : ℕ) where
   unfolding rules-from
   rules-after h = rw (drop-cons s at 0 h) refl
 
-  pub rules-end : length s ≤ at → rules-from n read 0 (drop at s) ≡ accepted (record { names = n; rules = read })
+  pub rules-end : length s ≤ at → rules-from n read 0 (drop at s) ≡ ok (record { names = n; rules = read })
   unfolding rules-from
   rules-end h = rw (drop-of-length-le s h) refl
 
@@ -139,13 +139,13 @@ pub record Laid (s : List ℕ) (n k m : ℕ) (b : Book) : Type 0 where
   pub named : (j : ℕ) → k ≤ j → j < k + m → Format.named n (rule-at s (rule-place s j) .right ∷ rule-at s (rule-place s j) .left) ≡ true
   pub ends : length s ≤ rule-place s (k + m)
 
-laid-end : (s : List ℕ) (n k : ℕ) (b : Book) → rules-from n (first-rules s k) 0 (drop (rule-place s k) s) ≡ accepted b → Laid s n k 0 b
+laid-end : (s : List ℕ) (n k : ℕ) (b : Book) → rules-from n (first-rules s k) 0 (drop (rule-place s k) s) ≡ ok b → Laid s n k 0 b
 laid-end s n k b h = by-place (lt-or-le (rule-place s k) (length s))
   where
     by-place : (rule-place s k < length s) ⊎ (length s ≤ rule-place s k) → Laid s n k 0 b
-    by-place (inl p) = absurd (refused-accepted 5 _ b (sym (rules-after s n (first-rules s k) (rule-place s k) p) ∙ h))
+    by-place (inl p) = absurd (refused-ok 5 _ b (sym (rules-after s n (first-rules s k) (rule-place s k) p) ∙ h))
     by-place (inr p) =
-        let e : record { names = n; rules = first-rules s k } ≡ b = accepted-injective _ b (sym (rules-end s n (first-rules s k) (rule-place s k) p) ∙ h) in
+        let e : record { names = n; rules = first-rules s k } ≡ b = ok-injective _ b (sym (rules-end s n (first-rules s k) (rule-place s k) p) ∙ h) in
         record {
           names = sym (ap (λ (x : Book). x .names) e);
           rules = rw add-zero (sym (ap (λ (x : Book). x .rules) e));
@@ -177,24 +177,24 @@ laid-rule s n k m b w d l =
     at-or-after j u v (inl e) P first later = rw e first
     at-or-after j u v (inr e) P first later = later j (omega arith) (omega arith)
 
-pub laid : (s : List ℕ) (n m k : ℕ) (b : Book) → rules-from n (first-rules s k) m (drop (rule-place s k) s) ≡ accepted b → Laid s n k m b
+pub laid : (s : List ℕ) (n m k : ℕ) (b : Book) → rules-from n (first-rules s k) m (drop (rule-place s k) s) ≡ ok b → Laid s n k m b
 unfolding first-rules rule-place
 laid s n zero k b h = laid-end s n k b h
 laid s n (suc m) k b h = by-whole (λ e. laid s n m (suc k) b e) (true-or-false (whole-at s (rule-place s k)))
   where
     Next : Type 0
-    Next = rules-from n (first-rules s (suc k)) m (drop (rule-place s (suc k)) s) ≡ accepted b
+    Next = rules-from n (first-rules s (suc k)) m (drop (rule-place s (suc k)) s) ≡ ok b
 
     declared : Bool
     declared = Format.named n (rule-at s (rule-place s k) .right ∷ rule-at s (rule-place s k) .left)
 
     by-named : (Next → Laid s n (suc k) m b) → whole-at s (rule-place s k) ≡ true → (declared ≡ true) ⊎ (declared ≡ false) → Laid s n k (suc m) b
     by-named next w (inl d) = laid-rule s n k m b w d (next (sym (rules-next s n (first-rules s k) (rule-place s k) m w d) ∙ h))
-    by-named next w (inr d) = absurd (refused-accepted 6 _ b (sym (rules-undeclared s n (first-rules s k) (rule-place s k) m w d) ∙ h))
+    by-named next w (inr d) = absurd (refused-ok 6 _ b (sym (rules-undeclared s n (first-rules s k) (rule-place s k) m w d) ∙ h))
 
     by-whole : (Next → Laid s n (suc k) m b) → (whole-at s (rule-place s k) ≡ true) ⊎ (whole-at s (rule-place s k) ≡ false) → Laid s n k (suc m) b
     by-whole next (inl w) = by-named next w (true-or-false declared)
-    by-whole next (inr w) = absurd (refused-accepted 5 _ b (sym (rules-cut s n (first-rules s k) (rule-place s k) m w) ∙ h))
+    by-whole next (inr w) = absurd (refused-ok 5 _ b (sym (rules-cut s n (first-rules s k) (rule-place s k) m w) ∙ h))
 
 -- the place of the next rule, counted as a loop counts
 pub place-next : (s : List ℕ) (k at next : ℕ) → at ≡ rule-place s k → next ≡ next-at s at → next ≡ rule-place s (k + 1)

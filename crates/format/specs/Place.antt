@@ -7,7 +7,7 @@ use lib.ListN.{length, getD, take, drop}
 use Rattle.roles.specs.Role.{Chain}
 use Rattle.roles.specs.Rule.{Rule, Book}
 use Rattle.format.specs.Result.{Result}
-use Rattle.format.specs.Result.Result.{refused, accepted}
+use Rattle.format.specs.Result.Result.{refused, ok}
 use Rattle.format.specs.Format.{decode}
 
 -- of a rule that begins at a place: its length, the place of the rule after it, the rule itself, and whether it is whole
@@ -36,12 +36,12 @@ first-rules s (suc k) = first-rules s k ++ (rule-at s (rule-place s k) ∷ [])
 -- whether causes 1 to 6 let the book pass and it has a rule k
 unfoldable pub has-rule : Result Book → ℕ → Bool
 has-rule (refused cause value) k = false
-has-rule (accepted b) k = ltb k (length (b .rules))
+has-rule (ok b) k = ltb k (length (b .rules))
 
 -- the left side of rule k; none where causes 1 to 6 refuse the book or it has no such rule
 unfoldable pub left-side : Result Book → ℕ → Chain
 left-side (refused cause value) k = []
-left-side (accepted b) k = getD (b .rules) k (record { left = []; right = 0 }) .left
+left-side (ok b) k = getD (b .rules) k (record { left = []; right = 0 }) .left
 
 -- the part of the bytes that holds it; the empty part where there is none
 unfoldable pub left-part : List ℕ → ℕ → List ℕ

@@ -14,8 +14,8 @@ use Rattle.roles.specs.PartLaws.{part, getD-part, length-part}
 use Rattle.roles.specs.Named.{Named}
 use Rattle.roles.specs.Rule.{Rule, Book}
 use Rattle.format.specs.Result.{Result, and-then}
-use Rattle.format.specs.Result.Result.{refused, accepted}
-use Rattle.format.specs.ResultLaws.{refused-accepted, accepted-injective, demand-rest}
+use Rattle.format.specs.Result.Result.{refused, ok}
+use Rattle.format.specs.ResultLaws.{refused-ok, ok-injective, demand-rest}
 use Rattle.format.specs.Format.{word, named, decode, repeats, distinct, read}
 use Rattle.format.specs.Place.{size-at, rule-at, whole-at, rule-place, first-rules}
 use Rattle.format.specs.FormatLaws.{Whole, whole-facts, getD-first-rules}
@@ -23,22 +23,22 @@ use Rattle.format.specs.DecodeLaws.{Decoded, decoded}
 use Rattle.format.specs.NamedLaws.{named-all, named-link}
 
 -- cause 7 keeps the book
-distinct-book : (n : ℕ) (earlier later : List Rule) (b : Book) → distinct n earlier later ≡ accepted b
+distinct-book : (n : ℕ) (earlier later : List Rule) (b : Book) → distinct n earlier later ≡ ok b
     → record { names = n; rules = earlier ++ later } ≡ b
 unfolding distinct
-distinct-book n earlier [] b h = rw append-nil (accepted-injective _ b h)
+distinct-book n earlier [] b h = rw append-nil (ok-injective _ b h)
 distinct-book n earlier (ρ ∷ later) b h =
     rw (← append-assoc earlier (ρ ∷ []) later)
     (distinct-book n (earlier ++ (ρ ∷ [])) later b
     (demand-rest (not (repeats ρ earlier)) 7 (length earlier) (distinct n (earlier ++ (ρ ∷ [])) later) b h))
 
-pub read-decode : (s : List ℕ) (b : Book) → read s ≡ accepted b → decode s ≡ accepted b
+pub read-decode : (s : List ℕ) (b : Book) → read s ≡ ok b → decode s ≡ ok b
 unfolding read
 read-decode s b h = by-result (decode s) h
   where
-    by-result : (r : Result Book) → and-then r (λ b. distinct (b .names) [] (b .rules)) ≡ accepted b → r ≡ accepted b
-    by-result (refused c v) e = absurd (refused-accepted c v b e)
-    by-result (accepted d) e = ap accepted (distinct-book (d .names) [] (d .rules) b e)
+    by-result : (r : Result Book) → and-then r (λ b. distinct (b .names) [] (b .rules)) ≡ ok b → r ≡ ok b
+    by-result (refused c v) e = absurd (refused-ok c v b e)
+    by-result (ok d) e = ap ok (distinct-book (d .names) [] (d .rules) b e)
 
 -- the first rules, one by one
 rule-member : (s : List ℕ) (k : ℕ) (ρ : Rule) → List·Memᴰ ρ (first-rules s k) → (j : ℕ) × (j < k) × (ρ ≡ rule-at s (rule-place s j))
@@ -89,7 +89,7 @@ module _ (n r : ℕ) (w : Chain) (h : named n (r ∷ w) ≡ true) where
       rw (getD-part w a size k (omega arith)) (named-link n (r ∷ w) h (suc (a + k)) (omega arith))
 
 -- a well-formed book
-module _ (s : List ℕ) (b : Book) (h : read s ≡ accepted b) where
+module _ (s : List ℕ) (b : Book) (h : read s ≡ ok b) where
   d : Decoded s b
   d = decoded s b (read-decode s b h)
 

@@ -8,7 +8,7 @@ use native.Mathlib.Omega.{arith}
 use lib.ListN.{drop, drop-of-length-le}
 use lib.Seq.{drop-cons}
 use Rattle.roles.specs.Rule.{Rule, inverse, same-rule}
-use Rattle.format.specs.Result.Result.{refused, accepted}
+use Rattle.format.specs.Result.Result.{refused, ok}
 use Rattle.format.specs.Format.{repeats, distinct}
 use Rattle.format.specs.Place.{rule-at, rule-place, first-rules}
 use Rattle.format.specs.FormatLaws.{length-first-rules, getD-first-rules}
@@ -35,7 +35,7 @@ module _ (s : List ℕ) (n count : ℕ) where
   unfolding first-rules
   searching-start = refl
 
-  pub searching-end : (k : ℕ) → k ≡ count → Searching s n count k → distinct n [] (first-rules s count) ≡ accepted (record { names = n; rules = first-rules s count })
+  pub searching-end : (k : ℕ) → k ≡ count → Searching s n count k → distinct n [] (first-rules s count) ≡ ok (record { names = n; rules = first-rules s count })
   unfolding distinct
   searching-end k e h = h ∙ rw (e, drop-of-length-le (first-rules s count) {i = count} (rw length-first-rules (omega arith))) refl
 

@@ -9,7 +9,7 @@ use native.Mathlib.Omega.{arith}
 use lib.ListN.{length, drop}
 use Rattle.roles.specs.Rule.{Rule, Book}
 use Rattle.format.specs.Result.{Result}
-use Rattle.format.specs.Result.Result.{refused, accepted}
+use Rattle.format.specs.Result.Result.{refused, ok}
 use Rattle.format.specs.Format.{rules-from, named}
 use Rattle.format.specs.Place.{next-at, rule-at, whole-at, rule-place, first-rules}
 use Rattle.format.specs.FormatLaws.{rules-cut, rules-undeclared, rules-next, rules-after, rules-end, length-first-rules}
@@ -30,7 +30,7 @@ module _ (s : List ℕ) (n count : ℕ) where
     pub running-after : at < length s → rules-from n [] count (drop 8 s) ≡ refused 5 count
     running-after h = here ∙ rw (rules-after s n (first-rules s count) at h, length-first-rules) refl
 
-    pub running-end : length s ≤ at → rules-from n [] count (drop 8 s) ≡ accepted (record { names = n; rules = first-rules s count })
+    pub running-end : length s ≤ at → rules-from n [] count (drop 8 s) ≡ ok (record { names = n; rules = first-rules s count })
     running-end h = here ∙ rules-end s n (first-rules s count) at h
 
   module _ (k : ℕ) (h : k < count) (run : Running s n count k) where

@@ -12,7 +12,7 @@ use Rattle.order.specs.Shape.Shape.{transitive, symmetric, row}
 use Rattle.order.specs.Closure.{inner-of}
 use Rattle.order.specs.Leveled.{Fits}
 use Rattle.order.specs.LeveledLaws.{inner-left}
-use Rattle.format.specs.Result.Result.{accepted}
+use Rattle.format.specs.Result.Result.{ok}
 use Rattle.format.specs.Format.{read}
 use Rattle.format.specs.Place.{rule-at, rule-place, first-rules}
 use Rattle.format.specs.FormatLaws.{Whole, whole-facts, length-first-rules, getD-first-rules}
@@ -24,7 +24,7 @@ use Rattle.layout.specs.Filling.{Ruled, Located, Started, Linking}
 use Rattle.layout.specs.FillingLaws.{linking-none, linking-more}
 
 -- the rules of a well-formed book
-module _ (s : List ℕ) (b : Book) (h : read s ≡ accepted b) where
+module _ (s : List ℕ) (b : Book) (h : read s ≡ ok b) where
   d : Decoded s b
   d = decoded s b (read-decode s b h)
 
@@ -95,7 +95,7 @@ fits-same f g h x symmetric p n l = tt
 fits-same f g h x (row from to inner) p n l = (l .0, λ s m. rw (h (name s) (n s m), h x p) (l .1 s m))
 
 -- the three steps together
-module _ (s : List ℕ) (b : Book) (h : read s ≡ accepted b) (levels : List ℕ)
+module _ (s : List ℕ) (b : Book) (h : read s ≡ ok b) (levels : List ℕ)
     (fits : (ρ : Rule) → List·Memᴰ ρ (b .rules) → Fits (λ x. getD levels x 0) (name (ρ .right)) (shape ρ))
     (n : ℕ) (count : n ≡ length (b .rules)) (located started ix : List ℕ) (l : Located s n located) (t : Started levels 64 located started)
     (k : Linking (first-rules s n) 0 started ix) where

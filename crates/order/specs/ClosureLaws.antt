@@ -130,7 +130,7 @@ module _ (ρs : List Rule) (lower : ℕ → ℕ → Bool) (c : Closed ρs lower)
   pub clash-forced : clashes lower ρ ≡ true → Forced (ρs ++ (ρ ∷ [])) (name (ρ .right)) (name (ρ .right))
   clash-forced h = reach-forced (name (ρ .right)) h
 
-  module _ (some : ρ .left ≡ [] → ⊥) (calm : clashes lower ρ ≡ false) where
+  module _ (some : ρ .left ≡ [] → ⊥) (extends : clashes lower ρ ≡ false) where
     -- what is lower than something reached is reached
     reach-down : (y z : ℕ) → holds lower y z → reaches lower (inner-of (shape ρ)) z ≡ true → reaches lower (inner-of (shape ρ)) y ≡ true
     reach-down y z h r = reached lower (inner-of (shape ρ)) y s (reach lower (inner-of (shape ρ)) z r .1) (by-case (reach lower (inner-of (shape ρ)) z r .2))
@@ -146,8 +146,8 @@ module _ (ρs : List Rule) (lower : ℕ → ℕ → Bool) (c : Closed ρs lower)
     irreflexive z h = by-case (gathered lower (name (ρ .right)) (inner-of (shape ρ)) z z h)
       where
         own : (z ≡ name (ρ .right)) ⊎ holds lower (name (ρ .right)) z → reaches lower (inner-of (shape ρ)) z ≡ true → ⊥
-        own (inl e) r = true≢false (sym (subst (λ (t : ℕ). reaches lower (inner-of (shape ρ)) t ≡ true) e r) ∙ calm)
-        own (inr k) r = true≢false (sym (reach-down (name (ρ .right)) z k r) ∙ calm)
+        own (inl e) r = true≢false (sym (subst (λ (t : ℕ). reaches lower (inner-of (shape ρ)) t ≡ true) e r) ∙ extends)
+        own (inr k) r = true≢false (sym (reach-down (name (ρ .right)) z k r) ∙ extends)
 
         by-case : holds lower z z ⊎ (((z ≡ name (ρ .right)) ⊎ holds lower (name (ρ .right)) z) × (reaches lower (inner-of (shape ρ)) z ≡ true)) → ⊥
         by-case (inl k) = c .order .irreflexive z k

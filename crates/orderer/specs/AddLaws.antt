@@ -19,7 +19,7 @@ use Rattle.orderer.specs.declared.shape.Row.{Row as Inner}
 use Rattle.orderer.specs.declared.shape.Shape.{Shape}
 use Rattle.orderer.specs.declared.shape.Shape.the-variants.{Transitive, Symmetric, Row}
 use Rattle.orderer.specs.declared.Gathered.{Gathered}
-use Rattle.orderer.specs.declared.Gathered.the-variants.{Calm, Clash}
+use Rattle.orderer.specs.declared.Gathered.the-variants.{Extends, Clash}
 use Rattle.orderer.specs.Shape.{Shaped, shape-in}
 use Rattle.orderer.specs.Gather.{gathered}
 use Rattle.orderer.specs.Gather as Gather
@@ -54,7 +54,7 @@ module _ (ρ : Rule) (masks : List ℕ) where
       → Holds new (with-inner lower (name (ρ .right)) inner) → Holds new (with-rule lower ρ)
   with-inner-rule lower new inner e h = subst (λ (v : Chain). Holds new (with-inner lower (name (ρ .right)) v)) (sym e) h
 
-  pub added-none : inner-of (Order.shape ρ) ≡ [] → Added Calm masks
+  pub added-none : inner-of (Order.shape ρ) ≡ [] → Added Extends masks
   unfolding reaches
   added-none e lower t h = (rw e refl, λ _. with-inner-rule lower masks [] e (holds-empty masks lower (name (ρ .right)) h))
 
@@ -70,10 +70,10 @@ module _ (ρ : Rule) (masks : List ℕ) where
         let f : clashes lower ρ ≡ true = tested lower h true k in
         (rw f refl, λ q. absurd (true≢false (sym f ∙ q)))
 
-    pub added-calm : (new : List ℕ) → has mask over ≡ false
+    pub added-extends : (new : List ℕ) → has mask over ≡ false
         → ((order : ℕ → ℕ → Bool) (v : Chain) → Holds masks order → ((y : ℕ) → y < 64 → has mask y ≡ reaches order v y) → Holds new (with-inner order over v))
-        → Added Calm new
-    added-calm new k leaves lower t h =
+        → Added Extends new
+    added-extends new k leaves lower t h =
         (rw (tested lower h false k) refl, λ _. with-inner-rule lower new inner e (rw (← o) (leaves lower inner h (reach lower h))))
 
     -- what the inner roles reach is below the right name already, and so below all names above it
@@ -100,6 +100,6 @@ module _ (ρ : Rule) (masks : List ℕ) where
       still-holds : Holds masks (with-inner lower over inner)
       still-holds = record { bits = λ x y p q. h .bits x y p q ∙ nothing-new x y q }
 
-    pub added-known : has mask over ≡ false → bitOr mask (getD masks over 0) ≡ getD masks over 0 → Added Calm masks
+    pub added-known : has mask over ≡ false → bitOr mask (getD masks over 0) ≡ getD masks over 0 → Added Extends masks
     added-known k known lower t h =
         (rw (tested lower h false k) refl, λ _. with-inner-rule lower masks inner e (rw (← o) (still-holds known lower t h)))

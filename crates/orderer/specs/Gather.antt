@@ -11,13 +11,13 @@ use Rattle.order.specs.Leveled.{Fits}
 use Rattle.order.specs.Mask.{Holds}
 use Rattle.order.specs.ClosureLaws.{Closed}
 use Rattle.format.specs.Result.{Result, map-result}
-use Rattle.format.specs.Result.Result.{refused, accepted}
+use Rattle.format.specs.Result.Result.{refused, ok}
 use Rattle.format.specs.Format.{read}
 use Rattle.causes.specs.Ordered.{ordered, Judged}
 use Rattle.decoder.specs.declared.verdict.Header.{Header}
 use Rattle.decoder.specs.Verdict.{header-of, says}
 use Rattle.orderer.specs.declared.Gathered.{Gathered}
-use Rattle.orderer.specs.declared.Gathered.the-variants.{Calm, Clash}
+use Rattle.orderer.specs.declared.Gathered.the-variants.{Extends, Clash}
 use Rattle.orderer.specs.declared.Ordering.{Ordering}
 
 -- a relation on names that is transitive
@@ -25,13 +25,13 @@ abbrev pub Transitive : (ℕ → ℕ → Bool) → Type 0
 Transitive lower = (x y z : ℕ) → lower x y ≡ true → lower y z ≡ true → lower x z ≡ true
 
 abbrev pub gathered : Bool → Gathered
-gathered false = Calm
+gathered false = Extends
 gathered true = Clash
 
 -- where the book passes, the masks hold the order that its rules force
 abbrev pub Gathered-order : List ℕ → Result Header → List ℕ → Type 0
 Gathered-order s (refused cause value) masks = Unit
-Gathered-order s (accepted h) masks = (b : Book) → ordered s ≡ accepted b → (lower : ℕ → ℕ → Bool) × Closed (b .rules) lower × Holds masks lower
+Gathered-order s (ok h) masks = (b : Book) → ordered s ≡ ok b → (lower : ℕ → ℕ → Bool) × Closed (b .rules) lower × Holds masks lower
 
 -- levels that fit every rule of a book: the inner names of each rule are of lower level than its right name, all are below 64, and those of the
 -- book's names below their number
@@ -46,7 +46,7 @@ pub record Ordered (s : List ℕ) (r : Ordering) : Type 0 where
   -- causes 1 to 8
   pub verdict : says (r .verdict) ≡ map-result header-of (ordered s)
   -- cause 8 is given exactly where there is no regular order, by the last rule of the shortest front part that has none
-  pub judged : (b : Book) → read s ≡ accepted b → Judged b (ordered s)
+  pub judged : (b : Book) → read s ≡ ok b → Judged b (ordered s)
   -- the levels fit where the book passes, and are 0 where it is refused
-  pub levels : (b : Book) → ordered s ≡ accepted b → Levels (r .levels) b
+  pub levels : (b : Book) → ordered s ≡ ok b → Levels (r .levels) b
   pub none : (cause value : ℕ) → ordered s ≡ refused cause value → r .levels ≡ replicate 64 0

@@ -10,8 +10,8 @@ use Rattle.roles.specs.RuleLaws.{rule-path}
 use Rattle.order.specs.Closure.{no-order, with-rule, clashes}
 use Rattle.order.specs.Mask.{Holds}
 use Rattle.format.specs.Result.{Result, map-result}
-use Rattle.format.specs.Result.Result.{refused, accepted}
-use Rattle.format.specs.ResultLaws.{refused-accepted, accepted-injective}
+use Rattle.format.specs.Result.Result.{refused, ok}
+use Rattle.format.specs.ResultLaws.{refused-ok, ok-injective}
 use Rattle.format.specs.Format.{named, read}
 use Rattle.format.specs.Place.{rule-at, whole-at, rule-place}
 use Rattle.format.specs.DecodeLaws.{decoded}
@@ -25,14 +25,14 @@ use Rattle.cursor.specs.Cursor.{entry-rule}
 use Rattle.cursor.specs.CursorLaws.{AtRule, entry-part}
 use Rattle.decoder.specs.Verdict.{header-of}
 use Rattle.orderer.specs.declared.Gathered.{Gathered}
-use Rattle.orderer.specs.declared.Gathered.the-variants.{Calm, Clash}
+use Rattle.orderer.specs.declared.Gathered.the-variants.{Extends, Clash}
 use Rattle.orderer.specs.Gather.{gathered, Gathered-order}
 use Rattle.orderer.specs.AddLaws.{Added}
 
 -- what adding a rule answered
-gathered-calm : (t : Bool) (r : Gathered) → r ≡ gathered t → r ≡ Calm → t ≡ false
-gathered-calm true r h k = absurd (let z : _≡_ {A = ℕ} 0 1 = cc in let f : ⊥ = omega arith in f)
-gathered-calm false r h k = refl
+gathered-extends : (t : Bool) (r : Gathered) → r ≡ gathered t → r ≡ Extends → t ≡ false
+gathered-extends true r h k = absurd (let z : _≡_ {A = ℕ} 0 1 = cc in let f : ⊥ = omega arith in f)
+gathered-extends false r h k = refl
 
 gathered-clash : (t : Bool) (r : Gathered) → r ≡ gathered t → r ≡ Clash → t ≡ true
 gathered-clash true r h k = refl
@@ -46,34 +46,34 @@ handed-rule s k e next a = rule-path _ _ (entry-part s e) refl ∙ a .rule
 
 -- the masks after k rules
 abbrev pub Gathers : List ℕ → List ℕ → ℕ → Type 0
-Gathers s masks k = (b : Book) → read s ≡ accepted b → (lower : ℕ → ℕ → Bool) × Gathering b k lower × Holds masks lower
+Gathers s masks k = (b : Book) → read s ≡ ok b → (lower : ℕ → ℕ → Bool) × Gathering b k lower × Holds masks lower
 
 pub gathers-start : (s masks : List ℕ) → Holds masks no-order → Gathers s masks 0
 gathers-start s masks h b e = (no-order, gathering-start b, h)
 
 -- a well-formed book, by its header
-module _ (s : List ℕ) (h : Header) (pre : map-result header-of (read s) ≡ accepted h) where
-  some-book : (b : Book) × (read s ≡ accepted b)
+module _ (s : List ℕ) (h : Header) (pre : map-result header-of (read s) ≡ ok h) where
+  some-book : (b : Book) × (read s ≡ ok b)
   some-book = by-result (read s) refl pre
     where
-      by-result : (r : Result Book) → read s ≡ r → map-result header-of r ≡ accepted h → (b : Book) × (read s ≡ accepted b)
-      by-result (refused c v) q e = absurd (refused-accepted c v h e)
-      by-result (accepted b) q e = (b, q)
+      by-result : (r : Result Book) → read s ≡ r → map-result header-of r ≡ ok h → (b : Book) × (read s ≡ ok b)
+      by-result (refused c v) q e = absurd (refused-ok c v h e)
+      by-result (ok b) q e = (b, q)
 
-  head : (b : Book) → read s ≡ accepted b → header-of b ≡ h
-  head b i = accepted-injective (header-of b) h (sym (ap (map-result header-of) i) ∙ pre)
+  head : (b : Book) → read s ≡ ok b → header-of b ≡ h
+  head b i = ok-injective (header-of b) h (sym (ap (map-result header-of) i) ∙ pre)
 
-  rules : (b : Book) → read s ≡ accepted b → length (b .rules) ≡ h .rules
+  rules : (b : Book) → read s ≡ ok b → length (b .rules) ≡ h .rules
   rules b i = ap (λ (x : Header). x .rules) (head b i)
 
-  names : (b : Book) → read s ≡ accepted b → b .names ≡ h .names
+  names : (b : Book) → read s ≡ ok b → b .names ≡ h .names
   names b i = ap (λ (x : Header). x .names) (head b i)
 
   pub few-names : h .names ≤ 64
   few-names = rw (← names (some-book .0) (some-book .1)) (read-few-names s (some-book .0) (some-book .1))
 
   module _ (k : ℕ) (p : k < h .rules) where
-    within : (b : Book) (i : read s ≡ accepted b) → k < length (b .rules)
+    within : (b : Book) (i : read s ≡ ok b) → k < length (b .rules)
     within b i = rw (rules b i) p
 
     pub whole-rule : whole-at s (rule-place s k) ≡ true
@@ -89,14 +89,14 @@ module _ (s : List ℕ) (h : Header) (pre : map-result header-of (read s) ≡ ac
           rw (e, ← names b i) (d .named k (rw (← d .count) (within b i)))
 
       module _ (masks new : List ℕ) (r : Gathered) (a : Added ρ masks r new) (g : Gathers s masks k) where
-        pub gathers-next : r ≡ Calm → Gathers s new (k + 1)
+        pub gathers-next : r ≡ Extends → Gathers s new (k + 1)
         gathers-next q b i =
             let l = g b i in
             let m = a (l .0) (l .1 .closed .order .transitive) (l .2) in
-            let calm : clashes (l .0) ρ ≡ false = gathered-calm _ r (m .0) q in (
+            let extends : clashes (l .0) ρ ≡ false = gathered-extends _ r (m .0) q in (
               with-rule (l .0) ρ,
-              gathering-next b k (l .0) (l .1) (within b i) ρ (read-rule s b i k (within b i) ρ e) (read-some s b i k (within b i) ρ e) calm,
-              m .1 calm,
+              gathering-next b k (l .0) (l .1) (within b i) ρ (read-rule s b i k (within b i) ρ e) (read-some s b i k (within b i) ρ e) extends,
+              m .1 extends,
             )
 
         pub gathers-clash : r ≡ Clash → refused 8 k ≡ map-result header-of (ordered s)
@@ -108,13 +108,13 @@ module _ (s : List ℕ) (h : Header) (pre : map-result header-of (read s) ≡ ac
             rw (ordered-from s b i, gathering-clash b k (l .0) (l .1) (within b i) ρ (read-rule s b i k (within b i) ρ e) clash) refl
 
   pub gathers-end : (masks : List ℕ) (k : ℕ) → h .rules ≤ k → Gathers s masks k
-      → (accepted h ≡ map-result header-of (ordered s)) × Gathered-order s (accepted h) masks
+      → (ok h ≡ map-result header-of (ordered s)) × Gathered-order s (ok h) masks
   gathers-end masks k p g = (
-    rw passed (sym (ap accepted (head (some-book .0) (some-book .1)))),
+    rw passed (sym (ap ok (head (some-book .0) (some-book .1)))),
     λ b e. let l = g b (ordered-read s b e) in (l .0, gathering-closed b k (l .0) (l .1) (rw (rules b (ordered-read s b e)) p), l .2),
   )
     where
-      passed : ordered s ≡ accepted (some-book .0)
+      passed : ordered s ≡ ok (some-book .0)
       passed =
           let b = some-book .0 in
           let i = some-book .1 in

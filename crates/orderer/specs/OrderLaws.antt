@@ -7,8 +7,8 @@ use Rattle.roles.specs.Rule.{Book}
 use Rattle.order.specs.Mask.{has, count}
 use Rattle.order.specs.LevelLaws.{levels-small, levels-few, levels-fit}
 use Rattle.format.specs.Result.{Result, map-result}
-use Rattle.format.specs.Result.Result.{refused, accepted}
-use Rattle.format.specs.ResultLaws.{refused-accepted}
+use Rattle.format.specs.Result.Result.{refused, ok}
+use Rattle.format.specs.ResultLaws.{refused-ok}
 use Rattle.format.specs.ReadLaws.{read-names, read-few-names, named-name, named-member, rules-named}
 use Rattle.causes.specs.Ordered.{ordered}
 use Rattle.causes.specs.GatherLaws.{ordered-judged, ordered-read}
@@ -23,14 +23,14 @@ module _ (s : List ℕ) (v : Verdict) (e : says v ≡ map-result header-of (orde
       record {
         verdict = e;
         judged = ordered-judged s;
-        levels = λ b q. absurd (refused-accepted c n (header-of b) (sym r ∙ e ∙ ap (map-result header-of) q));
+        levels = λ b q. absurd (refused-ok c n (header-of b) (sym r ∙ e ∙ ap (map-result header-of) q));
         none = λ _ _ _. refl;
       }
 
   -- masks that hold the gathered order, counted
-  module _ (h : Header) (r : says v ≡ accepted h) (masks levels : List ℕ) (g : Gathered-order s (says v) masks) (size : length levels ≡ 64)
+  module _ (h : Header) (r : says v ≡ ok h) (masks levels : List ℕ) (g : Gathered-order s (says v) masks) (size : length levels ≡ 64)
       (l : (x : ℕ) → x < 64 → getD levels x 0 ≡ count 64 (has (getD masks x 0))) where
-    fitting : (b : Book) → ordered s ≡ accepted b → Levels levels b
+    fitting : (b : Book) → ordered s ≡ ok b → Levels levels b
     fitting b q =
         let k = subst (λ (t : Result Header). Gathered-order s t masks) r g b q in
         let w = rules-named s b (ordered-read s b q) in
@@ -52,5 +52,5 @@ module _ (s : List ℕ) (v : Verdict) (e : says v ≡ map-result header-of (orde
           verdict = e;
           judged = ordered-judged s;
           levels = fitting;
-          none = λ c n q. absurd (refused-accepted c n h (sym (sym r ∙ e ∙ ap (map-result header-of) q)));
+          none = λ c n q. absurd (refused-ok c n h (sym (sym r ∙ e ∙ ap (map-result header-of) q)));
         }

@@ -9,7 +9,7 @@ ghost use Rattle.order.specs.Closure.{no-order, with-rule, clashes};
 ghost use Rattle.order.specs.Mask.{Holds, count};
 ghost use Rattle.order.specs.Mask.{has as has-of};
 ghost use Rattle.format.specs.Result.{map-result};
-ghost use Rattle.format.specs.Result.Result.{accepted};
+ghost use Rattle.format.specs.Result.Result.{ok};
 ghost use Rattle.format.specs.Format.{named};
 ghost use Rattle.format.specs.Format.{read as read-of};
 ghost use Rattle.causes.specs.Ordered.{ordered};
@@ -67,7 +67,7 @@ pub fn order(book: &[u8]) -> Ordering
 // Gathers the order that the rules force on the names: mask x holds the names lower than x, with a mask for each name of the book. Refused at the
 // first rule that would put its right name below itself.
 fn gather(book: &[u8], header: Header, masks: &mut [u64]) -> Verdict
-    requires { ⌜ map-result header-of (read-of (now book)) ≡ accepted header ⌝ }
+    requires { ⌜ map-result header-of (read-of (now book)) ≡ ok header ⌝ }
     requires { ⌜ length (now masks) ≡ header .names ⌝ }
     requires { ⌜ Holds (now masks) no-order ⌝ }
     ensures { λ r. ⌜ says r ≡ map-result header-of (ordered (now (book .entry))) ⌝ }
@@ -82,7 +82,7 @@ fn gather(book: &[u8], header: Header, masks: &mut [u64]) -> Verdict
         };
         let start = entry.start;
         let end = start + entry.size;
-        let Gathered::Calm = add_rule(&book[start..end], entry.right, masks) else {
+        let Gathered::Extends = add_rule(&book[start..end], entry.right, masks) else {
             return Verdict::Refused(Refusal::NoOrder(number));
         };
         cursor = next;
@@ -93,7 +93,9 @@ fn gather(book: &[u8], header: Header, masks: &mut [u64]) -> Verdict
 
 // What adding a rule finds.
 pub enum Gathered {
-    Calm,
+    // The order goes on, with what the rule forces.
+    Extends,
+    // The rule would put its right name below itself.
     Clash,
 }
 
@@ -107,7 +109,7 @@ fn add_rule(left: &[u8], right: u8, masks: &mut [u64]) -> Gathered
         → Holds (now (masks .exit)) (with-rule lower (record { left = now (left .entry); right = right })))) ⌝ }
 {
     let Shape::Row(row) = shape_of(left, right) else {
-        return Gathered::Calm;
+        return Gathered::Extends;
     };
     let start = row.start;
     let end = start + row.size;
@@ -118,10 +120,10 @@ fn add_rule(left: &[u8], right: u8, masks: &mut [u64]) -> Gathered
     }
     let below = masks[over];
     if lower | below == below {
-        return Gathered::Calm; // nothing new: what is below the right name is below all names above it
+        return Gathered::Extends; // nothing new: what is below the right name is below all names above it
     }
     absorb(masks, over, lower);
-    Gathered::Calm
+    Gathered::Extends
 }
 
 // How many names each name has below it; a name without a mask has none.

@@ -10,7 +10,7 @@ use Rattle.roles.specs.Role.{Chain, name, polarity, turn}
 use Rattle.tables.specs.Tables.{Transition}
 use Rattle.tables.specs.Path.{Path}
 use Rattle.format.specs.Result.{Result, demand}
-use Rattle.format.specs.Result.Result.{refused, accepted}
+use Rattle.format.specs.Result.Result.{refused, ok}
 use Rattle.format.specs.Format.{named}
 
 -- the transitions that numbers spell, three for each; one or two numbers at the end spell none
@@ -42,7 +42,7 @@ chain-fits w = leb 1 (length w) && leb (length w) 1024
 
 -- causes 13 and 14, in this order, for so many names
 abbrev pub question : ℕ → ℕ → Chain → Result (Unit {0})
-question n r w = demand (chain-fits w) 13 0 (demand (named n (r ∷ w)) 14 0 (accepted tt))
+question n r w = demand (chain-fits w) 13 0 (demand (named n (r ∷ w)) 14 0 (ok tt))
 
 -- causes 12, 13 and 14, in this order
 unfoldable pub query : (heads moves : List ℕ) → ℕ → Chain → Result (Unit {0})
@@ -58,6 +58,6 @@ Accepts heads moves r w = Path (transitions-in moves) (getD heads (name r) 0) (a
 
 -- the answer to a question: the first refusal met; else yes, exactly where such a path exists
 pub data Answered (heads moves : List ℕ) (r : ℕ) (w : Chain) : Result Bool → Type 0 where
-  turned-away : (cause value : ℕ) → query heads moves r w ≡ refused cause value → Answered heads moves r w (refused cause value)
-  yes : query heads moves r w ≡ accepted tt → Accepts heads moves r w → Answered heads moves r w (accepted true)
-  no : query heads moves r w ≡ accepted tt → (Accepts heads moves r w → ⊥) → Answered heads moves r w (accepted false)
+  refuses : (cause value : ℕ) → query heads moves r w ≡ refused cause value → Answered heads moves r w (refused cause value)
+  yes : query heads moves r w ≡ ok tt → Accepts heads moves r w → Answered heads moves r w (ok true)
+  no : query heads moves r w ≡ ok tt → (Accepts heads moves r w → ⊥) → Answered heads moves r w (ok false)

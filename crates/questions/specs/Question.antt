@@ -1,7 +1,7 @@
 -- What is found of a question, in document 01's numbers.
 use Prim.Native.Nat.{ℕ}
 use Rattle.format.specs.Result.{Result}
-use Rattle.format.specs.Result.Result.{refused, accepted}
+use Rattle.format.specs.Result.Result.{refused, ok}
 use Rattle.questions.specs.declared.refusal.QueryRefusal.{QueryRefusal}
 use Rattle.questions.specs.declared.refusal.QueryRefusal.the-variants.{Tables, Chain, Role}
 use Rattle.questions.specs.declared.Question.{Question}
@@ -15,5 +15,5 @@ cause-of Role = 14
 
 -- accepted, or the refusal by its number; the value beside it is 0
 abbrev pub says : Question → Result (Unit {0})
-says Fits = accepted tt
+says Fits = ok tt
 says (Refused refusal) = refused (cause-of refusal) 0

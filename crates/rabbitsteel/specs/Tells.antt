@@ -7,7 +7,7 @@ use lib.ListN.{length}
 use Rattle.roles.specs.Role.{Chain}
 use Rattle.roles.specs.Rule.{Book}
 use Rattle.format.specs.Result.{Result, map-result}
-use Rattle.format.specs.Result.Result.{refused, accepted}
+use Rattle.format.specs.Result.Result.{refused, ok}
 use Rattle.causes.specs.Built.{states-of, count-of, heads-of, moves-of, built, written}
 use Rattle.queries.specs.Query.{Answered}
 use Rattle.answers.specs.Reply.{Replied, posed}
@@ -21,15 +21,15 @@ pub record Pair : Type 0 where
 -- a result as three numbers: the cause or 0, and what is told
 abbrev pub cause-told : Result Pair → ℕ
 cause-told (refused cause value) = cause
-cause-told (accepted p) = 0
+cause-told (ok p) = 0
 
 abbrev pub first-told : Result Pair → ℕ
 first-told (refused cause value) = value
-first-told (accepted p) = p .one
+first-told (ok p) = p .one
 
 abbrev pub second-told : Result Pair → ℕ
 second-told (refused cause value) = 0
-second-told (accepted p) = p .two
+second-told (ok p) = p .two
 
 pub record Tells (r : Result Pair) (cause first second : ℕ) : Type 0 where
   pub cause-is : cause ≡ cause-told r
@@ -48,7 +48,7 @@ abbrev pub table-counts : Book → Pair
 table-counts b = record { one = states-of b; two = count-of b }
 
 -- what a build tells, and the lent tables
-pub record Builds (s h m h′ m′ : List ℕ) (cause first second : ℕ) : Type 0 where
+pub record TellsBuild (s h m h′ m′ : List ℕ) (cause first second : ℕ) : Type 0 where
   pub tells : Tells (map-result table-counts (built s (length h) (length m))) cause first second
   pub heads : h′ ≡ written (built s (length h) (length m)) heads-of h
   pub moves : m′ ≡ written (built s (length h) (length m)) moves-of m
@@ -59,13 +59,13 @@ bit true = record { one = 1; two = 0 }
 bit false = record { one = 0; two = 0 }
 
 -- the answer of tables
-pub record Asks (h m : List ℕ) (r : ℕ) (w : Chain) (cause answer : ℕ) : Type 0 where
+pub record TellsAnswer (h m : List ℕ) (r : ℕ) (w : Chain) (cause answer : ℕ) : Type 0 where
   pub said : Result Bool
   pub answered : Answered h m r w said
   pub tells : Tells (map-result bit said) cause answer 0
 
 -- the answer from a book's bytes, and the lent tables: where the book or the question is refused, what they held
-pub record Derives (s h m : List ℕ) (r : ℕ) (w : Chain) (h′ m′ : List ℕ) (cause answer : ℕ) : Type 0 where
+pub record TellsDerived (s h m : List ℕ) (r : ℕ) (w : Chain) (h′ m′ : List ℕ) (cause answer : ℕ) : Type 0 where
   pub said : Result Bool
   pub replied : Replied s (length h) (length m) r w said
   pub tells : Tells (map-result bit said) cause answer 0

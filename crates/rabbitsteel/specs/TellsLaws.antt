@@ -5,7 +5,7 @@ use Prim.Native.Nat.{ℕ}
 use lib.ListN.{length}
 use Rattle.roles.specs.Role.{Chain}
 use Rattle.format.specs.Result.{Result, map-result}
-use Rattle.format.specs.Result.Result.{refused, accepted}
+use Rattle.format.specs.Result.Result.{refused, ok}
 use Rattle.causes.specs.Built.{built}
 use Rattle.queries.specs.Query.{Answered}
 use Rattle.answerer.specs.declared.Answer.{Answer}
@@ -15,7 +15,7 @@ use Rattle.builder.specs.declared.Outcome.{Outcome}
 use Rattle.builder.specs.Built as builder
 use Rattle.deriver.specs.declared.Reply.{Reply}
 use Rattle.deriver.specs.Replies as replies
-use Rattle.rabbitsteel.specs.Tells.{Pair, Tells, cause-told, first-told, second-told, bit, Builds, Asks, Derives}
+use Rattle.rabbitsteel.specs.Tells.{Pair, Tells, cause-told, first-told, second-told, bit, TellsBuild, TellsAnswer, TellsDerived}
 
 -- a result tells its own numbers
 pub told : (r : Result Pair) → Tells r (cause-told r) (first-told r) (second-told r)
@@ -29,24 +29,24 @@ told-refused f c v cause value p q = record { cause-is = p; first-is = q; second
 pub told-of : {A B : Type 0} (f : A → B) (g : B → Pair) (x : Result A) (v : Result B) (cause one two : ℕ) → v ≡ map-result f x
     → Tells (map-result g v) cause one two → Tells (map-result (λ a. g (f a)) x) cause one two
 told-of {B = B} f g (refused c w) v cause one two e t = subst (λ (y : Result B). Tells (map-result g y) cause one two) e t
-told-of {B = B} f g (accepted a) v cause one two e t = subst (λ (y : Result B). Tells (map-result g y) cause one two) e t
+told-of {B = B} f g (ok a) v cause one two e t = subst (λ (y : Result B). Tells (map-result g y) cause one two) e t
 
 abbrev pub counts : Counts → Pair
 counts k = record { one = k .states; two = k .transitions }
 
 module _ (s h m h′ m′ : List ℕ) where
-  pub builds : (o v : Outcome) (cause one two : ℕ) → builder.Builds s h m h′ m′ o → o ≡ v
-      → Tells (map-result counts (builder.says v)) cause one two → Builds s h m h′ m′ cause one two
-  builds o v cause one two b e t =
+  pub tells-build : (o v : Outcome) (cause one two : ℕ) → builder.Builds s h m h′ m′ o → o ≡ v
+      → Tells (map-result counts (builder.says v)) cause one two → TellsBuild s h m h′ m′ cause one two
+  tells-build o v cause one two b e t =
       record {
         tells = told-of builder.counts-of counts (built s (length h) (length m)) (builder.says v) cause one two (ap builder.says (sym e) ∙ b .answer) t;
         heads = b .heads;
         moves = b .moves;
       }
 
-  pub derives : (r : ℕ) (w : Chain) (a v : Reply) (cause answer : ℕ) → replies.Replies s h m r w h′ m′ a → a ≡ v
-      → Tells (map-result bit (replies.says v)) cause answer 0 → Derives s h m r w h′ m′ cause answer
-  derives r w a v cause answer q e t =
+  pub tells-derived : (r : ℕ) (w : Chain) (a v : Reply) (cause answer : ℕ) → replies.Replies s h m r w h′ m′ a → a ≡ v
+      → Tells (map-result bit (replies.says v)) cause answer 0 → TellsDerived s h m r w h′ m′ cause answer
+  tells-derived r w a v cause answer q e t =
       record {
         said = replies.says v;
         replied = rw (← e) (q .answer);
@@ -55,6 +55,6 @@ module _ (s h m h′ m′ : List ℕ) where
         moves = q .moves;
       }
 
-pub asks : (h m : List ℕ) (r : ℕ) (w : Chain) (a v : Answer) (cause answer : ℕ) → Answered h m r w (answers.says a) → a ≡ v
-    → Tells (map-result bit (answers.says v)) cause answer 0 → Asks h m r w cause answer
-asks h m r w a v cause answer q e t = record { said = answers.says v; answered = rw (← e) q; tells = t }
+pub tells-answer : (h m : List ℕ) (r : ℕ) (w : Chain) (a v : Answer) (cause answer : ℕ) → Answered h m r w (answers.says a) → a ≡ v
+    → Tells (map-result bit (answers.says v)) cause answer 0 → TellsAnswer h m r w cause answer
+tells-answer h m r w a v cause answer q e t = record { said = answers.says v; answered = rw (← e) q; tells = t }

@@ -6,7 +6,7 @@ ghost use Rattle.decoder.specs.Verdict.{says};
 ghost use Rattle.format.specs.Format.{read};
 ghost use Rattle.format.specs.Result.{map-result};
 ghost use Rattle.refusals.specs.Refusal.{cause-of, value-of};
-ghost use Rattle.rabbitsteel.specs.Tells.{Tells, Builds, Asks, Derives, book-counts, header-counts};
+ghost use Rattle.rabbitsteel.specs.Tells.{Tells, TellsBuild, TellsAnswer, TellsDerived, book-counts, header-counts};
 use answerer::Answer;
 use builder::Outcome;
 use decoder::Verdict;
@@ -67,7 +67,7 @@ pub extern "C" fn rabbitsteel_build(
     first: &mut u64,
     second: &mut u64,
 ) -> u64
-    ensures { λ r. ⌜ Builds (now (book .entry)) (now (heads .entry)) (now (moves .entry)) (now (heads .exit)) (now (moves .exit)) r
+    ensures { λ r. ⌜ TellsBuild (now (book .entry)) (now (heads .entry)) (now (moves .entry)) (now (heads .exit)) (now (moves .exit)) r
         (now (first .exit)) (now (second .exit)) ⌝ }
 {
     let outcome = builder::build(book, heads, moves);
@@ -93,7 +93,7 @@ pub extern "C" fn rabbitsteel_ask(
     chain: &[u8],
     answer: &mut u64,
 ) -> u64
-    ensures { λ r. ⌜ Asks (now (heads .entry)) (now (moves .entry)) role (now (chain .entry)) r (now (answer .exit)) ⌝ }
+    ensures { λ r. ⌜ TellsAnswer (now (heads .entry)) (now (moves .entry)) role (now (chain .entry)) r (now (answer .exit)) ⌝ }
 {
     let said = answerer::ask(heads, moves, role, chain);
     match said {
@@ -112,7 +112,7 @@ pub extern "C" fn rabbitsteel_ask(
     }
 }
 
-// Builds and asks: causes 1 to 14, and the answer by derivation, 1 for yes, 0 for no. Refused: the value beside the cause, and the tables keep
+// TellsBuild and asks: causes 1 to 14, and the answer by derivation, 1 for yes, 0 for no. Refused: the value beside the cause, and the tables keep
 // what they held.
 #[no_mangle]
 pub extern "C" fn rabbitsteel_derived(
@@ -123,7 +123,7 @@ pub extern "C" fn rabbitsteel_derived(
     chain: &[u8],
     answer: &mut u64,
 ) -> u64
-    ensures { λ r. ⌜ Derives (now (book .entry)) (now (heads .entry)) (now (moves .entry)) role (now (chain .entry)) (now (heads .exit))
+    ensures { λ r. ⌜ TellsDerived (now (book .entry)) (now (heads .entry)) (now (moves .entry)) role (now (chain .entry)) (now (heads .exit))
         (now (moves .exit)) r (now (answer .exit)) ⌝ }
 {
     let reply = deriver::derived(book, heads, moves, role, chain);

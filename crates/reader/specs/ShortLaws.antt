@@ -10,7 +10,7 @@ use Rattle.roles.specs.Role.{Chain, name, polarity, turn}
 use Rattle.roles.specs.PartLaws.{length-part}
 use Rattle.roles.specs.Rule.{Book}
 use Rattle.format.specs.Result.{Result, map-result}
-use Rattle.format.specs.Result.Result.{refused, accepted}
+use Rattle.format.specs.Result.Result.{refused, ok}
 use Rattle.format.specs.Format.{word, named, decode}
 use Rattle.format.specs.Place.{size-at, rule-at, whole-at, rule-place}
 use Rattle.format.specs.FormatLaws.{Whole, whole-facts}
@@ -45,12 +45,12 @@ pub record Bounded (s : List ℕ) (h : Header) : Type 0 where
   pub few : h .rules ≤ 256
   pub short : (k : ℕ) → k < h .rules → Short (rule-at s (rule-place s k))
 
-pub bounded : (s : List ℕ) (h : Header) → map-result header-of (decode s) ≡ accepted h → Bounded s h
+pub bounded : (s : List ℕ) (h : Header) → map-result header-of (decode s) ≡ ok h → Bounded s h
 bounded s h e = by-result (decode s) refl e
   where
-    by-result : (r : Result Book) → decode s ≡ r → map-result header-of r ≡ accepted h → Bounded s h
+    by-result : (r : Result Book) → decode s ≡ r → map-result header-of r ≡ ok h → Bounded s h
     by-result (refused c v) q e = absurd (let z : _≡_ {A = ℕ} 0 1 = cc in let f : ⊥ = omega arith in f)
-    by-result (accepted b) q e =
+    by-result (ok b) q e =
         let d : Decoded s b = decoded s b q in
         let p : header-of b ≡ h = cc in
         let c : h .rules ≡ word s 6 = ap (λ (x : Header). x .rules) (sym p) ∙ d .count in

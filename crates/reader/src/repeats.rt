@@ -8,7 +8,7 @@ ghost use Prim.Native.Nat.{_+_, _^_, _<_, _≤_};
 ghost use lib.ListN.{length, set};
 ghost use Rattle.roles.specs.Role.{inv-chain, turn};
 ghost use Rattle.format.specs.Result.{map-result};
-ghost use Rattle.format.specs.Result.Result.{accepted};
+ghost use Rattle.format.specs.Result.Result.{ok};
 ghost use Rattle.format.specs.Format.{decode as decode-of, read as read-of};
 ghost use Rattle.keys.specs.Key.{Small, Short};
 ghost use Rattle.keys.specs.Key.{code as code-of, key as key-of};
@@ -29,7 +29,7 @@ use role_bytes::name;
 
 // Cause 7, for a book that passes 1 to 6.
 pub(crate) fn distinct(book: &[u8], header: Header) -> Verdict
-    requires { ⌜ map-result header-of (decode-of (now book)) ≡ accepted header ⌝ }
+    requires { ⌜ map-result header-of (decode-of (now book)) ≡ ok header ⌝ }
     ensures { λ r. ⌜ says r ≡ map-result header-of (read-of (now (book .entry))) ⌝ }
 {
     let rules = header.rules;

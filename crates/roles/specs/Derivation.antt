@@ -10,6 +10,7 @@ pub data Step (ρs : List Rule) : Chain → Chain → Type 0 where
   replace : (before after : Chain) (ρ : Rule) → List·Memᴰ ρ (completion ρs)
       → Step ρs (before ++ ρ .right ∷ after) (before ++ (ρ .left ++ after))
 
--- finitely many replacements, perhaps none, lead from the role to the chain
+-- finitely many replacements, perhaps none, lead from the role to the chain (document 01: the chain is derived from the role, and a contract prints
+-- "binds" for it)
 abbrev pub Derives : List Rule → ℕ → Chain → Type 0
 Derives ρs r w = ReflTransGenᴰ (Step ρs) (r ∷ []) w

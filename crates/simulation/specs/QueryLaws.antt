@@ -6,7 +6,7 @@ use Prim.Native.Nat.{ℕ, zero, suc, _*_, _<_, _≤_}
 use native.Mathlib.Omega.{arith}
 use lib.ListN.{length, getD}
 use Rattle.roles.specs.Role.{Chain, name}
-use Rattle.format.specs.Result.Result.{refused, accepted}
+use Rattle.format.specs.Result.Result.{refused, ok}
 use Rattle.format.specs.ResultLaws.{demand-test, demand-rest}
 use Rattle.format.specs.Format.{named}
 use Rattle.format.specs.NamedLaws.{named-all, named-link}
@@ -26,8 +26,8 @@ module _ (n r : ℕ) (w : Chain) where
     pub question-role : named n (r ∷ w) ≡ false → question n r w ≡ refused 14 0
     question-role h = rw (sized, h) refl
 
-    pub question-accepted : named n (r ∷ w) ≡ true → question n r w ≡ accepted tt
-    question-accepted h = rw (sized, h) refl
+    pub question-ok : named n (r ∷ w) ≡ true → question n r w ≡ ok tt
+    question-ok h = rw (sized, h) refl
 
 -- the first refusal met, put to tables
 module _ (heads moves : List ℕ) (r : ℕ) (w : Chain) where
@@ -40,7 +40,7 @@ module _ (heads moves : List ℕ) (r : ℕ) (w : Chain) where
   query-question h = rw h refl
 
   -- what a question that is not refused has passed
-  module _ (passed : query heads moves r w ≡ accepted tt) where
+  module _ (passed : query heads moves r w ≡ ok tt) where
     passed-tables : tables-fit heads moves ≡ true
     unfolding query
     passed-tables = demand-test (tables-fit heads moves) 12 0 _ tt passed
@@ -72,7 +72,7 @@ module _ (n r : ℕ) (w : Chain) where
       by-place (suc i) l = k i (omega arith)
 
 -- a question that is not refused has tables that fit, a name and letters
-module _ (heads moves : List ℕ) (r : ℕ) (w : Chain) (passed : query heads moves r w ≡ accepted tt) where
+module _ (heads moves : List ℕ) (r : ℕ) (w : Chain) (passed : query heads moves r w ≡ ok tt) where
   pub fitting : Tables heads moves
   fitting = tables heads moves (passed-tables heads moves r w passed)
 

@@ -8,7 +8,7 @@ use Prim.Native.Nat.{ℕ, _*_}
 use lib.ListN.{length, take}
 use Rattle.roles.specs.Role.{Chain}
 use Rattle.format.specs.Result.{Result}
-use Rattle.format.specs.Result.Result.{refused, accepted}
+use Rattle.format.specs.Result.Result.{refused, ok}
 use Rattle.causes.specs.Built.{heads-of, moves-of, built}
 use Rattle.queries.specs.Query.{Answered}
 use Rattle.answers.specs.Reply.{Decided}
@@ -17,7 +17,7 @@ use Rattle.transcripts.specs.Lines.{first-line}
 use Rattle.transcripts.specs.Transcript.{next, Transcript, Session}
 use Rattle.transcripts.specs.Transcript.Next.{nothing, part}
 use Rattle.transcripts.specs.Transcript.Transcript.{ended, cut}
-use Rattle.transcripts.specs.Transcript.Session.{turned-away, served}
+use Rattle.transcripts.specs.Transcript.Session.{refuses, served}
 use Rattle.transcripts.specs.TranscriptLaws.{transcript-map}
 use Rattle.refusals.specs.declared.refusal.Refusal.{Refusal}
 use Rattle.refusals.specs.Refusal.{cause-of, value-of}
@@ -36,13 +36,13 @@ transcript-ending Says k q (inr e) = rw e (cut k q e)
 -- a build in tables of the largest size, and the lines for the questions that are put to what it wrote
 module _ (s h m h′ m′ q : List ℕ) (heads : length h ≡ 64) (moves : length m ≡ 15360) where
   pub session-refused : (x : Refusal) → Builds s h m h′ m′ (Refused x) → Session s q (first-line (outcome-says (Refused x)))
-  session-refused x p = turned-away (cause-of x) (value-of x) (rw (heads, moves) at (refused-by s h m h′ m′ x p))
+  session-refused x p = refuses (cause-of x) (value-of x) (rw (heads, moves) at (refused-by s h m h′ m′ x p))
 
   pub session-served : (c : Counts) → Builds s h m h′ m′ (Built c) → (lines : List ℕ)
       → Transcript (Answered (take (c .names) h′) (take (3 * c .transitions) m′)) 0 q lines → Session s q (first-line (outcome-says (Built c)) ++ lines)
   session-served c p lines t =
       let book = own s h m h′ m′ c p in
-      let e : built s 64 15360 ≡ accepted (book .book) = rw (heads, moves) at (book .accepts) in
+      let e : built s 64 15360 ≡ ok (book .book) = rw (heads, moves) at (book .accepts) in
       let tables : Transcript (Answered (heads-of (book .book)) (moves-of (book .book))) 0 q lines =
       rw (written-heads s h m h′ m′ c p, written-moves s h m h′ m′ c p) at t in
       let derived : Transcript (Decided (book .book)) 0 q lines =

@@ -4,7 +4,7 @@ use mathlib.Core.List.{List, [], _∷_, _++_}
 use Prim.Native.Nat.{ℕ, zero, suc, _+_, _/_, _%_}
 use lib.Dec.{ltb}
 use Rattle.format.specs.Result.{Result}
-use Rattle.format.specs.Result.Result.{refused, accepted}
+use Rattle.format.specs.Result.Result.{refused, ok}
 
 -- the decimal digits of a number that has at most so many, the first digit first
 unfoldable pub decimal-from : ℕ → ℕ → List ℕ
@@ -42,13 +42,13 @@ end-line = 0x0A ∷ []
 
 -- the first line: the numbers of states and transitions, or the refusal by its number and second value
 abbrev pub first-line : Result (ℕ × ℕ) → List ℕ
-first-line (accepted (states, transitions)) = book-word ++ decimal states ++ space ++ decimal transitions ++ end-line
+first-line (ok (states, transitions)) = book-word ++ decimal states ++ space ++ decimal transitions ++ end-line
 first-line (refused cause value) = book-refused-word ++ decimal cause ++ space ++ decimal value ++ end-line
 
 -- the line of question k: yes, no or the number of the refusal
 abbrev pub answer-line : ℕ → Result Bool → List ℕ
-answer-line k (accepted true) = decimal k ++ yes-word
-answer-line k (accepted false) = decimal k ++ no-word
+answer-line k (ok true) = decimal k ++ yes-word
+answer-line k (ok false) = decimal k ++ no-word
 answer-line k (refused cause value) = decimal k ++ (refused-word ++ decimal cause ++ end-line)
 
 -- the line of question k where the input ends inside it

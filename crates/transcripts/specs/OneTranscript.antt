@@ -7,8 +7,8 @@ use native.Mathlib.Omega.{arith}
 use Rattle.roles.specs.Role.{Chain}
 use Rattle.roles.specs.Rule.{Book}
 use Rattle.format.specs.Result.{Result}
-use Rattle.format.specs.Result.Result.{refused, accepted}
-use Rattle.format.specs.ResultLaws.{refused-accepted, accepted-injective}
+use Rattle.format.specs.Result.Result.{refused, ok}
+use Rattle.format.specs.ResultLaws.{refused-ok, ok-injective}
 use Rattle.causes.specs.Built.{states-of, count-of}
 use Rattle.answers.specs.Reply.{Decided}
 use Rattle.answers.specs.OneReply.{decided-one}
@@ -16,7 +16,7 @@ use Rattle.transcripts.specs.Lines.{first-line, answer-line}
 use Rattle.transcripts.specs.Transcript.{Transcript, Session}
 use Rattle.transcripts.specs.Transcript.Next.{nothing, part, whole}
 use Rattle.transcripts.specs.Transcript.Transcript.{ended, cut, answered}
-use Rattle.transcripts.specs.Transcript.Session.{turned-away, served}
+use Rattle.transcripts.specs.Transcript.Session.{refuses, served}
 
 nothing-part : nothing ≡ part → ⊥
 nothing-part h = let z : _≡_ {A = ℕ} 0 1 = cc in omega arith
@@ -49,14 +49,14 @@ module _ (Says : ℕ → Chain → Result Bool → Type 0)
 
 -- and all that the program writes
 pub session-one : (s q out out′ : List ℕ) → Session s q out → Session s q out′ → out ≡ out′
-session-one s q _ _ (turned-away c v h) (turned-away d u g) =
+session-one s q _ _ (refuses c v h) (refuses d u g) =
     let e : _≡_ {A = Result Book} (refused c v) (refused d u) = sym h ∙ g in
     let cause : c ≡ d = cc in
     let value : v ≡ u = cc in
     rw (cause, value) refl
-session-one s q _ _ (turned-away c v h) (served b lines g t) = absurd (refused-accepted c v b (sym h ∙ g))
-session-one s q _ _ (served b lines h t) (turned-away c v g) = absurd (refused-accepted c v b (sym g ∙ h))
+session-one s q _ _ (refuses c v h) (served b lines g t) = absurd (refused-ok c v b (sym h ∙ g))
+session-one s q _ _ (served b lines h t) (refuses c v g) = absurd (refused-ok c v b (sym g ∙ h))
 session-one s q _ _ (served b lines h t) (served b′ lines′ g t′) =
-    let same : b′ ≡ b = accepted-injective b′ b (sym g ∙ h) in
+    let same : b′ ≡ b = ok-injective b′ b (sym g ∙ h) in
     let rest : lines ≡ lines′ = transcript-one (Decided b) (decided-one b) 0 q lines lines′ t (rw same at t′) in
-    ap₂ (λ (x : Book) (l : List ℕ). first-line (accepted (states-of x, count-of x)) ++ l) (sym same) rest
+    ap₂ (λ (x : Book) (l : List ℕ). first-line (ok (states-of x, count-of x)) ++ l) (sym same) rest

@@ -8,7 +8,7 @@ use lib.ListN.{length, take, drop}
 use Rattle.roles.specs.Role.{Chain}
 use Rattle.roles.specs.Rule.{Book}
 use Rattle.format.specs.Result.{Result}
-use Rattle.format.specs.Result.Result.{refused, accepted}
+use Rattle.format.specs.Result.Result.{refused, ok}
 use Rattle.causes.specs.Built.{states-of, count-of, built}
 use Rattle.answers.specs.Reply.{Decided}
 use Rattle.transcripts.specs.Lines.{first-line, answer-line, cut-line}
@@ -35,6 +35,6 @@ pub data Transcript (Says : ℕ → Chain → Result Bool → Type 0) : ℕ → 
 
 -- all that the program writes for a book's bytes and an input
 pub data Session (s q : List ℕ) : List ℕ → Type 0 where
-  turned-away : (cause value : ℕ) → built s 64 15360 ≡ refused cause value → Session s q (first-line (refused cause value))
-  served : (b : Book) (lines : List ℕ) → built s 64 15360 ≡ accepted b → Transcript (Decided b) 0 q lines
-      → Session s q (first-line (accepted (states-of b, count-of b)) ++ lines)
+  refuses : (cause value : ℕ) → built s 64 15360 ≡ refused cause value → Session s q (first-line (refused cause value))
+  served : (b : Book) (lines : List ℕ) → built s 64 15360 ≡ ok b → Transcript (Decided b) 0 q lines
+      → Session s q (first-line (ok (states-of b, count-of b)) ++ lines)

@@ -14,9 +14,9 @@ use Rattle.tables.specs.Tables.{Transition, epsilon, silent}
 use Rattle.tables.specs.Path.{Path}
 use Rattle.tables.specs.Path.Path.{stop, skip, read}
 use Rattle.format.specs.Result.{Result, map-result}
-use Rattle.format.specs.Result.Result.{refused, accepted}
+use Rattle.format.specs.Result.Result.{refused, ok}
 use Rattle.queries.specs.Query.{transitions-in, query, asked, Answered}
-use Rattle.queries.specs.Query.Answered.{turned-away, yes, no}
+use Rattle.queries.specs.Query.Answered.{refuses, yes, no}
 use Rattle.automata.specs.Every.{Every, every-nil, every-cons, every-append, every-if}
 use Rattle.worked.specs.Tests.{all-every, among, among-member, member-among, same-answer, same-answer-sound}
 use Rattle.worked.specs.Search.{predecessors, closure, closed, starts, exhaustive, head, found, answers}
@@ -112,9 +112,9 @@ module _ (heads moves : List ℕ) (r : ℕ) (w : Chain) where
       by-result : (x : Result (Unit {0})) → query heads moves r w ≡ x
           → (b : Bool) → among (starts ms (head heads r + 1) (asked r w)) (head heads r) ≡ b
           → Answered heads moves r w (map-result (λ (u : Unit {0}). b) x)
-      by-result (refused c v) e b f = turned-away c v e
-      by-result (accepted u) e true f = yes e (found-path ms (head heads r) (head heads r + 1) (asked r w) f)
-      by-result (accepted u) e false f = no e (not-found ms (head heads r) (head heads r + 1) (asked r w) h f)
+      by-result (refused c v) e b f = refuses c v e
+      by-result (ok u) e true f = yes e (found-path ms (head heads r) (head heads r + 1) (asked r w) f)
+      by-result (ok u) e false f = no e (not-found ms (head heads r) (head heads r + 1) (asked r w) h f)
 
   pub answers-answered : (a : Result Bool) → answers heads moves r w a ≡ true → Answered heads moves r w a
   unfolding answers

@@ -9,7 +9,7 @@ use borrow.Author.Tests.{eqb-true, eq-eqb}
 use lib.Dec.{eqb}
 use Rattle.roles.specs.Tests.{and-left, and-right, or-cases, or-left, or-right}
 use Rattle.format.specs.Result.{Result}
-use Rattle.format.specs.Result.Result.{refused, accepted}
+use Rattle.format.specs.Result.Result.{refused, ok}
 use Rattle.automata.specs.Every.{Every, every-nil, every-cons}
 
 -- every member passes a test
@@ -57,16 +57,16 @@ same-pair-sound a b h =
 module _ {A : Type 0} (same : A → A → Bool) where
   unfoldable pub same-result : Result A → Result A → Bool
   same-result (refused c v) (refused d u) = same-pair (c, v) (d, u)
-  same-result (refused c v) (accepted b) = false
-  same-result (accepted a) (refused d u) = false
-  same-result (accepted a) (accepted b) = same a b
+  same-result (refused c v) (ok b) = false
+  same-result (ok a) (refused d u) = false
+  same-result (ok a) (ok b) = same a b
 
   pub same-result-sound : ((a b : A) → same a b ≡ true → a ≡ b) → (r s : Result A) → same-result r s ≡ true → r ≡ s
   unfolding same-result
   same-result-sound sound (refused c v) (refused d u) h = ap (λ (p : ℕ × ℕ). refused (p .0) (p .1)) (same-pair-sound (c, v) (d, u) h)
-  same-result-sound sound (refused c v) (accepted b) h = absurd (false≢true h)
-  same-result-sound sound (accepted a) (refused d u) h = absurd (false≢true h)
-  same-result-sound sound (accepted a) (accepted b) h = ap accepted (sound a b h)
+  same-result-sound sound (refused c v) (ok b) h = absurd (false≢true h)
+  same-result-sound sound (ok a) (refused d u) h = absurd (false≢true h)
+  same-result-sound sound (ok a) (ok b) h = ap ok (sound a b h)
 
 -- two answers are the same
 abbrev pub same-answer : Result Bool → Result Bool → Bool

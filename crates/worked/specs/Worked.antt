@@ -7,7 +7,7 @@ use Prim.Native.Nat.{ℕ}
 use Rattle.roles.specs.Role.{Chain}
 use Rattle.roles.specs.Rule.{Book}
 use Rattle.format.specs.Result.{Result, map-result}
-use Rattle.format.specs.Result.Result.{refused, accepted}
+use Rattle.format.specs.Result.Result.{refused, ok}
 use Rattle.causes.specs.Built.{states-of, count-of, heads-of, built, written}
 use Rattle.automata.specs.Every.{Every}
 use Rattle.answers.specs.Reply.{Replied}
@@ -45,19 +45,19 @@ examples =
           ∷ 0x02 ∷ 0x02 ∷ 0x00 ∷ 0x02
           ∷ 0x06 ∷ 0x02 ∷ 0x02 ∷ 0x04
           ∷ []);
-      first = accepted (16, 18);
+      first = ok (16, 18);
       heads = 0 ∷ 2 ∷ 6 ∷ 8 ∷ [];
       questions =
           -- the five questions put to the program
-          ask 0x06 (0x00 ∷ 0x00 ∷ 0x02 ∷ 0x04 ∷ []) (accepted true)
-          ∷ ask 0x06 (0x02 ∷ 0x00 ∷ 0x04 ∷ []) (accepted false)
-          ∷ ask 0x07 (0x05 ∷ 0x03 ∷ 0x01 ∷ []) (accepted true)
+          ask 0x06 (0x00 ∷ 0x00 ∷ 0x02 ∷ 0x04 ∷ []) (ok true)
+          ∷ ask 0x06 (0x02 ∷ 0x00 ∷ 0x04 ∷ []) (ok false)
+          ∷ ask 0x07 (0x05 ∷ 0x03 ∷ 0x01 ∷ []) (ok true)
           ∷ ask 0x06 [] (refused 13 0)
           ∷ ask 0x06 (0x08 ∷ []) (refused 14 0)
           -- due from due
-          ∷ ask 0x06 (0x06 ∷ []) (accepted true)
+          ∷ ask 0x06 (0x06 ∷ []) (ok true)
           -- sits from part, read as due from due is: the chain sits, asked about part
-          ∷ ask 0x00 (0x02 ∷ []) (accepted false)
+          ∷ ask 0x00 (0x02 ∷ []) (ok false)
           ∷ [];
     }
     -- R to R as rule 0
@@ -67,7 +67,7 @@ examples =
     -- inv(R) to R, then R to inv(R)
     ∷ refusal (bytes 0x01 0x02 (0x00 ∷ 0x01 ∷ 0x01 ∷ 0x01 ∷ 0x01 ∷ 0x00 ∷ [])) 7 1
     -- one name, no rule
-    ∷ record { book = bytes 0x01 0x00 []; first = accepted (2, 1); heads = 0 ∷ []; questions = [] }
+    ∷ record { book = bytes 0x01 0x00 []; first = ok (2, 1); heads = 0 ∷ []; questions = [] }
     -- no name
     ∷ refusal (bytes 0x00 0x00 []) 4 0
     ∷ []

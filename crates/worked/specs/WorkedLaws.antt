@@ -11,13 +11,13 @@ use Rattle.order.specs.Closure.{reaches, with-inner}
 use Rattle.order.specs.Shape.{leads, trails, shape}
 use Rattle.tables.specs.Tables.{rules-of, has-symmetric, has-transitive, shapes, row-size, rows-size, row-transitions, rows-transitions, letters, back, size-of, transitions-of, roots-from, transitions-from, states-from, numbers}
 use Rattle.format.specs.Result.{Result, map-result}
-use Rattle.format.specs.Result.Result.{refused, accepted}
+use Rattle.format.specs.Result.Result.{refused, ok}
 use Rattle.format.specs.Format.{word, front, named, one-rule, rules-from, decode, repeats, distinct, read}
 use Rattle.causes.specs.Ordered.{order-from, ordered}
 use Rattle.causes.specs.Built.{heads-of, moves-of, fitting, built, written}
 use Rattle.queries.specs.Query.{transitions-in, heads-fit, transitions-fit, tables-fit, query, asked}
 use Rattle.answers.specs.Reply.{Replied}
-use Rattle.answers.specs.Reply.Replied.{turned-away, settled}
+use Rattle.answers.specs.Reply.Replied.{refuses, settled}
 use Rattle.answers.specs.ReplyLaws.{decided}
 use Rattle.automata.specs.Every.{Every}
 use Rattle.worked.specs.Worked.{Question, Example, counts, build, examples, Holds}
@@ -28,7 +28,7 @@ use Rattle.worked.specs.SearchLaws.{answers-answered}
 -- a question has its answer, where a build gave a book or a refusal
 replies : Result Book → Question → Bool
 replies (refused c v) q = same-answer (refused c v) (q .answer)
-replies (accepted b) q = answers (heads-of b) (moves-of b) (q .role) (q .chain) (q .answer)
+replies (ok b) q = answers (heads-of b) (moves-of b) (q .role) (q .chain) (q .answer)
 
 replies-replied : (s : List ℕ) (q : Question) → replies (built s 64 15360) q ≡ true → Replied s 64 15360 (q .role) (q .chain) (q .answer)
 unfolding replies
@@ -36,8 +36,8 @@ replies-replied s q = by-result (built s 64 15360) refl
   where
     by-result : (r : Result Book) → built s 64 15360 ≡ r → replies r q ≡ true → Replied s 64 15360 (q .role) (q .chain) (q .answer)
     by-result (refused c v) e h =
-        subst (Replied s 64 15360 (q .role) (q .chain)) (same-answer-sound (refused c v) (q .answer) h) (turned-away c v e)
-    by-result (accepted b) e h =
+        subst (Replied s 64 15360 (q .role) (q .chain)) (same-answer-sound (refused c v) (q .answer) h) (refuses c v e)
+    by-result (ok b) e h =
         settled b (q .answer) e
         (decided s 64 15360 b e (q .role) (q .chain) (q .answer)
         (answers-answered (heads-of b) (moves-of b) (q .role) (q .chain) (q .answer) h))

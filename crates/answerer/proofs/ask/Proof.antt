@@ -1,7 +1,7 @@
 -- `ask` meets its contract: `check` settles causes 12 to 14, and a question that passes them is decided by `accepts`.
 use mathlib.Core.Path.{sym, ap, _∙_}
 use borrow.Author.Tests.{not-true, not-false}
-use Rattle.queries.specs.Query.Answered.{turned-away, yes as answered-yes, no as answered-no}
+use Rattle.queries.specs.Query.Answered.{refuses, yes as answered-yes, no as answered-no}
 use Rattle.questions.specs.Question.{says as found}
 use borrow.Author.Needs.{needs}
 use Rattle.answerer.proofs.ask.Statement.{statement}
@@ -23,7 +23,7 @@ returns : tie.Need-returns
 returns c = answered-no (sym (c .before .before .before .before .check .ensures) ∙ ap found (c .before .before .enum-told .given .1)) (c .before .accepts .ensures .fails (not-true _ (c .if1 .taken)))
 
 returns-2 : tie.Need-returns-2
-returns-2 c = turned-away _ 0 (sym (c .before .before .before .check .ensures) ∙ ap found (c .before .question .given .1))
+returns-2 c = refuses _ 0 (sym (c .before .before .before .check .ensures) ∙ ap found (c .before .question .given .1))
 
 returns-3 : tie.Need-returns-3
 returns-3 c = answered-yes (sym (c .before .before .before .before .check .ensures) ∙ ap found (c .before .before .enum-told .given .1)) (c .before .accepts .ensures .holds (not-false _ (c .if1 .left)))

@@ -5,7 +5,7 @@ use Prim.Native.Nat.{_<_, _+_, _-_}
 use native.Mathlib.Omega.{arith}
 use lib.ListN.{length}
 use Rattle.format.specs.ReadLaws.{named-name, named-part}
-use Rattle.orderer.specs.AddLaws.{no-inner, row-within, row-inner, added-none, added-clash, added-known, added-calm}
+use Rattle.orderer.specs.AddLaws.{no-inner, row-within, row-inner, added-none, added-clash, added-known, added-extends}
 use borrow.Author.Needs.{needs}
 use Rattle.orderer.proofs.add_rule.Statement.{statement}
 use Rattle.orderer.proofs.add_rule.Tie as tie
@@ -75,7 +75,7 @@ same-length-3 : tie.Need-same-length-3
 same-length-3 c = search needs
 
 returns-4 : tie.Need-returns-4
-returns-4 c = added-calm _ _ _ (row-inner _ _ _ (c .before .before .before .before .before .before .before .before .before .before .before .before .before .before .before .before .shape-of .ensures) _ (c .before .before .before .before .before .before .before .before .before .before .before .before .before .before .row .given .1)) _ (c .before .before .before .before .before .before .before .before .before .reached .ensures) _ (c .before .before .before .before .before .before .before .before .name .ensures) (over-small (c .before .before .before .before .before .before .before .before)) _ (sym (c .before .before .before .before .before .before .before .has .ensures) ∙ c .before .before .before .before .before .before .if1 .left) (c .before .before .absorb .ensures)
+returns-4 c = added-extends _ _ _ (row-inner _ _ _ (c .before .before .before .before .before .before .before .before .before .before .before .before .before .before .before .before .shape-of .ensures) _ (c .before .before .before .before .before .before .before .before .before .before .before .before .before .before .row .given .1)) _ (c .before .before .before .before .before .before .before .before .before .reached .ensures) _ (c .before .before .before .before .before .before .before .before .name .ensures) (over-small (c .before .before .before .before .before .before .before .before)) _ (sym (c .before .before .before .before .before .before .before .has .ensures) ∙ c .before .before .before .before .before .before .if1 .left) (c .before .before .absorb .ensures)
 
 pub add-rule-spec : {M : Type 1} → statement M
 add-rule-spec =

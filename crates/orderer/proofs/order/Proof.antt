@@ -7,7 +7,7 @@ use lib.Seq.{length-take-le, take-at, length-front}
 use Rattle.causes.specs.GatherLaws.{ordered-refused}
 use Rattle.format.specs.Format.{read}
 use Rattle.format.specs.Result.{map-result}
-use Rattle.format.specs.Result.Result.{accepted}
+use Rattle.format.specs.Result.Result.{ok}
 use Rattle.order.specs.AbsorbLaws.{holds-none}
 use Rattle.orderer.specs.FrontLaws.{holds-front}
 use Rattle.orderer.specs.GatherLaws.{few-names}
@@ -31,11 +31,11 @@ returns c =
     order-refused _ _ (r ∙ sym (ap (map-result header-of) (ordered-refused header-of _ _ _ (sym r ∙ c .before .before .read .ensures)))) _ _ r
 
 -- the header is that of a book that `read` accepts, and has at most 64 names
-accepted-header : (c : tie.After-known-told) → map-result header-of (read (c .before .before .before .before .before .args .book .now)) ≡ accepted (c .before .verdict .given .0 .0)
-accepted-header c = sym (sym (ap says (c .before .verdict .given .1)) ∙ c .before .before .before .read .ensures)
+ok-header : (c : tie.After-known-told) → map-result header-of (read (c .before .before .before .before .before .args .book .now)) ≡ ok (c .before .verdict .given .0 .0)
+ok-header c = sym (sym (ap says (c .before .verdict .given .1)) ∙ c .before .before .before .read .ensures)
 
 few : (c : tie.After-known-told) → c .before .verdict .given .0 .0 .names ≤ 64
-few c = few-names _ _ (accepted-header c)
+few c = few-names _ _ (ok-header c)
 
 -- there is a mask for each name
 as-many : (c : tie.After-known-told) → length {A = ℕ} (take (c .before .verdict .given .0 .0 .names) (replicate 64 0)) ≡ c .before .verdict .given .0 .0 .names
@@ -48,7 +48,7 @@ slice-aggregate-gather : tie.Need-slice-aggregate-gather
 slice-aggregate-gather c = sym (as-many (c .before))
 
 gather-requires : tie.Need-gather-requires
-gather-requires c κs = (accepted-header (c .before), (as-many (c .before), holds-front (c .before .before .verdict .given .0 .0 .names) (replicate 64 0) holds-none))
+gather-requires c κs = (ok-header (c .before), (as-many (c .before), holds-front (c .before .before .verdict .given .0 .0 .names) (replicate 64 0) holds-none))
 
 enum-told-2 : tie.Need-enum-told-2
 enum-told-2 c = search needs

@@ -1,7 +1,7 @@
 -- `check_for` meets its contract: each check settles one cause in its turn.
 use mathlib.Core.Path.{sym}
 use borrow.Author.Needs.{needs}
-use Rattle.simulation.specs.QueryLaws.{question-chain, question-role, question-accepted}
+use Rattle.simulation.specs.QueryLaws.{question-chain, question-role, question-ok}
 use Rattle.refusals.specs.Check.{check-passed, check-failed}
 use Rattle.questions.proofs.check_for.Statement.{statement}
 use Rattle.questions.proofs.check_for.Tie as tie
@@ -31,7 +31,7 @@ returns-2 : tie.Need-returns-2
 returns-2 c = sym (question-role _ _ _ (check-passed _ _ (c .before .before .before .before .before .chain-fits .ensures) (c .before .before .before .enum-told .given .1)) (check-failed _ _ (c .before .before .roles-fit .ensures) (c .enum-told4 .given .1)))
 
 returns-3 : tie.Need-returns-3
-returns-3 c = sym (question-accepted _ _ _ (check-passed _ _ (c .before .before .before .before .before .chain-fits .ensures) (c .before .before .before .enum-told .given .1)) (check-passed _ _ (c .before .before .roles-fit .ensures) (c .enum-told3 .given .1)))
+returns-3 c = sym (question-ok _ _ _ (check-passed _ _ (c .before .before .before .before .before .chain-fits .ensures) (c .before .before .before .enum-told .given .1)) (check-passed _ _ (c .before .before .roles-fit .ensures) (c .enum-told3 .given .1)))
 
 pub check-for-spec : {M : Type 1} → statement M
 check-for-spec =

@@ -1,6 +1,6 @@
 -- `rabbitsteel_build` meets its contract: each outcome is told by its case.
 use borrow.Author.Needs.{needs}
-use Rattle.rabbitsteel.specs.TellsLaws.{told, told-refused, counts, builds}
+use Rattle.rabbitsteel.specs.TellsLaws.{told, told-refused, counts, tells-build}
 use Rattle.rabbitsteel.proofs.rabbitsteel_build.Statement.{statement}
 use Rattle.rabbitsteel.proofs.rabbitsteel_build.Tie as tie
 
@@ -23,7 +23,7 @@ same-length-2 : tie.Need-same-length-2
 same-length-2 c = search needs
 
 returns : tie.Need-returns
-returns c = builds _ _ _ _ _ _ _ _ _ _ (c .before .before .before .before .before .before .before .build .ensures) (c .before .outcome .given .1) (told _)
+returns c = tells-build _ _ _ _ _ _ _ _ _ _ (c .before .before .before .before .before .before .before .build .ensures) (c .before .outcome .given .1) (told _)
 
 same-length-3 : tie.Need-same-length-3
 same-length-3 c = search needs
@@ -32,7 +32,7 @@ same-length-4 : tie.Need-same-length-4
 same-length-4 c = search needs
 
 returns-2 : tie.Need-returns-2
-returns-2 c = builds _ _ _ _ _ _ _ _ _ _ (c .before .before .before .before .before .before .before .before .before .build .ensures) (c .before .before .before .outcome2 .given .1) (told-refused counts _ _ _ _ (c .refuse .ensures .0) (c .refuse .ensures .1))
+returns-2 c = tells-build _ _ _ _ _ _ _ _ _ _ (c .before .before .before .before .before .before .before .before .before .build .ensures) (c .before .before .before .outcome2 .given .1) (told-refused counts _ _ _ _ (c .refuse .ensures .0) (c .refuse .ensures .1))
 
 pub rabbitsteel-build-spec : {M : Type 1} → statement M
 rabbitsteel-build-spec =

@@ -1,6 +1,6 @@
 -- `rabbitsteel_derived` meets its contract: each reply is told by its case.
 use borrow.Author.Needs.{needs}
-use Rattle.rabbitsteel.specs.TellsLaws.{told, told-refused, derives}
+use Rattle.rabbitsteel.specs.TellsLaws.{told, told-refused, tells-derived}
 use mathlib.Core.Path.{refl}
 use Rattle.rabbitsteel.specs.Tells.{bit}
 use Rattle.rabbitsteel.proofs.rabbitsteel_derived.Statement.{statement}
@@ -34,7 +34,7 @@ same-length-2 : tie.Need-same-length-2
 same-length-2 c = search needs
 
 returns : tie.Need-returns
-returns c = derives _ _ _ _ _ _ _ _ _ _ _ (c .before .before .before .before .before .before .derived .ensures) (c .enum-told .given .1) (told _)
+returns c = tells-derived _ _ _ _ _ _ _ _ _ _ _ (c .before .before .before .before .before .before .derived .ensures) (c .enum-told .given .1) (told _)
 
 same-length-3 : tie.Need-same-length-3
 same-length-3 c = search needs
@@ -43,7 +43,7 @@ same-length-4 : tie.Need-same-length-4
 same-length-4 c = search needs
 
 returns-2 : tie.Need-returns-2
-returns-2 c = derives _ _ _ _ _ _ _ _ _ _ _ (c .before .before .before .before .before .before .derived .ensures) (c .enum-told2 .given .1) (told _)
+returns-2 c = tells-derived _ _ _ _ _ _ _ _ _ _ _ (c .before .before .before .before .before .before .derived .ensures) (c .enum-told2 .given .1) (told _)
 
 same-length-5 : tie.Need-same-length-5
 same-length-5 c = search needs
@@ -52,7 +52,7 @@ same-length-6 : tie.Need-same-length-6
 same-length-6 c = search needs
 
 returns-3 : tie.Need-returns-3
-returns-3 c = derives _ _ _ _ _ _ _ _ _ _ _ (c .before .before .before .before .before .before .before .before .before .derived .ensures) (c .before .before .before .reply .given .1) (told-refused bit _ _ _ _ (c .refuse .ensures .0) (c .refuse .ensures .1))
+returns-3 c = tells-derived _ _ _ _ _ _ _ _ _ _ _ (c .before .before .before .before .before .before .before .before .before .derived .ensures) (c .before .before .before .reply .given .1) (told-refused bit _ _ _ _ (c .refuse .ensures .0) (c .refuse .ensures .1))
 
 same-length-7 : tie.Need-same-length-7
 same-length-7 c = search needs
@@ -61,7 +61,7 @@ same-length-8 : tie.Need-same-length-8
 same-length-8 c = search needs
 
 returns-4 : tie.Need-returns-4
-returns-4 c = derives _ _ _ _ _ _ _ _ _ _ _ (c .before .before .before .before .before .before .before .before .derived .ensures) (c .before .before .reply2 .given .1) (told-refused bit _ _ _ _ (c .cause .ensures) refl)
+returns-4 c = tells-derived _ _ _ _ _ _ _ _ _ _ _ (c .before .before .before .before .before .before .before .before .derived .ensures) (c .before .before .reply2 .given .1) (told-refused bit _ _ _ _ (c .cause .ensures) refl)
 
 pub rabbitsteel-derived-spec : {M : Type 1} → statement M
 rabbitsteel-derived-spec =

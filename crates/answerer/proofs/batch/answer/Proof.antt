@@ -2,7 +2,7 @@
 use mathlib.Core.Path.{sym, ap, _∙_}
 use native.Mathlib.Omega.{arith}
 use borrow.Author.Tests.{not-true, not-false}
-use Rattle.queries.specs.Query.Answered.{turned-away, yes as answered-yes, no as answered-no}
+use Rattle.queries.specs.Query.Answered.{refuses, yes as answered-yes, no as answered-no}
 use Rattle.simulation.specs.QueryLaws.{query-tables, query-question, fitting, named-role, letters}
 use Rattle.simulation.specs.StatesLaws.{unused-later}
 use Rattle.simulation.specs.TablesLaws.{tables}
@@ -13,7 +13,7 @@ use Rattle.answerer.proofs.batch.answer.Statement.{statement}
 use Rattle.answerer.proofs.batch.answer.Tie as tie
 
 returns : tie.Need-returns
-returns c = (turned-away 12 0 (query-tables _ _ _ _ (c .before .before .before .before .before .before .before .pre .0 .judged ∙ not-true _ (c .if1 .taken))), (unused-later _ _ _ _ (omega arith) (c .before .before .before .before .before .before .before .pre .1 .1 .0), unused-later _ _ _ _ (omega arith) (c .before .before .before .before .before .before .before .pre .1 .1 .1)))
+returns c = (refuses 12 0 (query-tables _ _ _ _ (c .before .before .before .before .before .before .before .pre .0 .judged ∙ not-true _ (c .if1 .taken))), (unused-later _ _ _ _ (omega arith) (c .before .before .before .before .before .before .before .pre .1 .1 .0), unused-later _ _ _ _ (omega arith) (c .before .before .before .before .before .before .before .pre .1 .1 .1)))
 
 cast-check-for : tie.Need-cast-check-for
 cast-check-for c = omega (arith, tables _ _ (c .before .before .before .before .before .before .before .pre .0 .judged ∙ not-false _ (c .if1 .left)) .few-heads)

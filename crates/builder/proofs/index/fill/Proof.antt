@@ -3,7 +3,7 @@ use mathlib.Core.Path.{_≡_, _∙_}
 use borrow.Author.Needs.{needs}
 use lib.ListN.{length}
 use Rattle.format.specs.Format.{read}
-use Rattle.format.specs.Result.Result.{accepted}
+use Rattle.format.specs.Result.Result.{ok}
 use Rattle.layout.specs.Filling.{Ruled}
 use Rattle.layout.specs.FillingLaws.{located-kept}
 use Rattle.layout.specs.IndexLaws.{ruled, indexed}
@@ -16,7 +16,7 @@ rules : (c : tie.Start) → Ruled (c .args .book .now) (c .args .rules)
 rules c = rw (c .pre .0 .2) (ruled _ (c .pre .0 .0) (c .pre .0 .1))
 
 -- every book that the bytes read as has so many
-count : (c : tie.Start) (b : Book) → read (c .args .book .now) ≡ accepted b → c .args .rules ≡ length (b .rules)
+count : (c : tie.Start) (b : Book) → read (c .args .book .now) ≡ ok b → c .args .rules ≡ length (b .rules)
 count c b e = cc (c .pre .0 .1, c .pre .0 .2)
 
 locate-requires : tie.Need-locate-requires

@@ -3,7 +3,7 @@ use mathlib.Core.Bool.{true, false}
 use mathlib.Core.Path.{refl, ap}
 use borrow.Author.Needs.{needs}
 use native.Mathlib.Omega.{arith}
-use Rattle.format.specs.Result.Result.{refused, accepted}
+use Rattle.format.specs.Result.Result.{refused, ok}
 use Rattle.answerer.specs.Batch.{told}
 use Rattle.transcriber.specs.PutsLaws.{puts-then, puts-told, told-refused}
 use Rattle.transcriber.proofs.line.put_answer.Statement.{statement}
@@ -31,13 +31,13 @@ same-length : tie.Need-same-length
 same-length c = search needs
 
 returns : tie.Need-returns
-returns c = (puts-told (c .before .before .before .before .before .before .before .before .before .before .before .args .number) (c .before .before .before .before .before .before .before .before .before .before .before .args .answer) (accepted false) (ap told (c .before .before .before .before .before .match .keys1)) (puts-then (c .before .before .before .before .before .before .before .before .put-number .ensures .0) (c .before .before .put .ensures)) refl, omega (arith, c .before .before .before .before .before .before .before .before .put-number .ensures .1, c .before .before .put .ensures .ends))
+returns c = (puts-told (c .before .before .before .before .before .before .before .before .before .before .before .args .number) (c .before .before .before .before .before .before .before .before .before .before .before .args .answer) (ok false) (ap told (c .before .before .before .before .before .match .keys1)) (puts-then (c .before .before .before .before .before .before .before .before .put-number .ensures .0) (c .before .before .put .ensures)) refl, omega (arith, c .before .before .before .before .before .before .before .before .put-number .ensures .1, c .before .before .put .ensures .ends))
 
 same-length-2 : tie.Need-same-length-2
 same-length-2 c = search needs
 
 returns-2 : tie.Need-returns-2
-returns-2 c = (puts-told (c .before .before .before .before .before .before .before .before .before .before .before .args .number) (c .before .before .before .before .before .before .before .before .before .before .before .args .answer) (accepted true) (ap told (c .before .before .before .before .before .match .keys2)) (puts-then (c .before .before .before .before .before .before .before .before .put-number .ensures .0) (c .before .before .put2 .ensures)) refl, omega (arith, c .before .before .before .before .before .before .before .before .put-number .ensures .1, c .before .before .put2 .ensures .ends))
+returns-2 c = (puts-told (c .before .before .before .before .before .before .before .before .before .before .before .args .number) (c .before .before .before .before .before .before .before .before .before .before .before .args .answer) (ok true) (ap told (c .before .before .before .before .before .match .keys2)) (puts-then (c .before .before .before .before .before .before .before .before .put-number .ensures .0) (c .before .before .put2 .ensures)) refl, omega (arith, c .before .before .before .before .before .before .before .before .put-number .ensures .1, c .before .before .put2 .ensures .ends))
 
 same-length-3 : tie.Need-same-length-3
 same-length-3 c = search needs
