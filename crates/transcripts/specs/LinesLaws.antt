@@ -1,4 +1,5 @@
--- The fewest digits that hold a number are its decimal digits.
+-- The fewest digits that hold a number are its decimal digits, and a line has at most 64 bytes.
+use mathlib.Core.Bool.{Bool, true, false, cond}
 use mathlib.Core.List.{List, [], _∷_, _++_}
 use mathlib.Core.Logic.{_⊎_, inl, inr}
 use mathlib.Core.Path.{_≡_, refl, ap₂, _∙_}
@@ -6,10 +7,13 @@ use Prim.Native.Nat.{ℕ, zero, suc, _+_, _-_, _*_, _/_, _%_, _^_, _<_, _≤_}
 use native.Mathlib.Omega.{arith}
 use borrow.Author.Tests.{lt-ltb, le-ltb}
 use native.Mathlib.Nat.{one-le-pow, pow-le-pow-right, pow-suc}
-use lib.ListN.{length, take}
+use lib.Dec.{ltb}
+use lib.ListN.{length, take, length-append}
 use Rattle.roles.specs.Tests.{lt-or-le}
 use Rattle.io.specs.Digits.{glyph, digits, Fewest}
-use Rattle.transcripts.specs.Lines.{decimal-from, decimal}
+use Rattle.format.specs.Result.{Result}
+use Rattle.format.specs.Result.Result.{refused, ok}
+use Rattle.transcripts.specs.Lines.{decimal-from, decimal, yes-word, no-word, refused-word, end-line, answer-line}
 
 glyph-digit : (d : ℕ) → d < 10 → glyph d ≡ 48 + d
 glyph-digit d h = rw (lt-ltb d 10 h) refl
@@ -61,3 +65,31 @@ unfolding decimal
 decimal-digits n k ds small size f e =
     let few : k ≤ 20 = few-digits n k small f in
     (e ∙ digits-decimal 20 n k few f, rw (← size) few)
+
+-- a line has at most 64 bytes
+decimal-from-short : (fuel n : ℕ) → length (decimal-from fuel n) ≤ fuel
+unfolding decimal-from
+decimal-from-short zero n = omega arith
+decimal-from-short (suc fuel) n = by-test (decimal-from-short fuel (n / 10)) (ltb n 10)
+  where
+    by-test : length (decimal-from fuel (n / 10)) ≤ fuel → (t : Bool)
+        → length (cond t ((48 + n) ∷ []) (decimal-from fuel (n / 10) ++ ((48 + n % 10) ∷ []))) ≤ suc fuel
+    by-test h true = omega arith
+    by-test h false = omega (arith, h, length-append (decimal-from fuel (n / 10)) ((48 + n % 10) ∷ []))
+
+decimal-short : (n : ℕ) → length (decimal n) ≤ 20
+unfolding decimal
+decimal-short n = decimal-from-short 20 n
+
+pub line-short : (k : ℕ) (a : Result Bool) → length (answer-line k a) ≤ 64
+line-short k (ok true) = omega (arith, decimal-short k, length-append (decimal k) yes-word)
+line-short k (ok false) = omega (arith, decimal-short k, length-append (decimal k) no-word)
+line-short k (refused c v) =
+    omega (
+      arith,
+      decimal-short k,
+      decimal-short c,
+      length-append (decimal k) (refused-word ++ decimal c ++ end-line),
+      length-append (refused-word ++ decimal c) end-line,
+      length-append refused-word (decimal c),
+    )

@@ -21,10 +21,10 @@ use Rattle.transcripts.specs.Transcript.Session.{refuses, served}
 nothing-part : nothing ≡ part → ⊥
 nothing-part h = let z : _≡_ {A = ℕ} 0 1 = cc in omega arith
 
-nothing-whole : (r : ℕ) (w : Chain) (rest : List ℕ) → nothing ≡ whole r w rest → ⊥
+pub nothing-whole : (r : ℕ) (w : Chain) (rest : List ℕ) → nothing ≡ whole r w rest → ⊥
 nothing-whole r w rest h = let z : _≡_ {A = ℕ} 0 1 = cc in omega arith
 
-part-whole : (r : ℕ) (w : Chain) (rest : List ℕ) → part ≡ whole r w rest → ⊥
+pub part-whole : (r : ℕ) (w : Chain) (rest : List ℕ) → part ≡ whole r w rest → ⊥
 part-whole r w rest h = let z : _≡_ {A = ℕ} 0 1 = cc in omega arith
 
 -- where the answers are one, so are the lines

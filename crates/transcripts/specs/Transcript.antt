@@ -2,7 +2,7 @@
 use mathlib.Core.Bool.{Bool, cond}
 use mathlib.Core.List.{List, [], _∷_, _++_}
 use mathlib.Core.Path.{_≡_}
-use Prim.Native.Nat.{ℕ, suc, _+_, _*_}
+use Prim.Native.Nat.{ℕ, suc, _+_}
 use lib.Dec.{leb}
 use lib.ListN.{length, take, drop}
 use Rattle.roles.specs.Role.{Chain}
@@ -10,6 +10,7 @@ use Rattle.roles.specs.Rule.{Book}
 use Rattle.format.specs.Result.{Result}
 use Rattle.format.specs.Result.Result.{refused, ok}
 use Rattle.causes.specs.Built.{states-of, count-of, built}
+use Rattle.queries.specs.Input.{links-of}
 use Rattle.answers.specs.Reply.{Decided}
 use Rattle.transcripts.specs.Lines.{first-line, answer-line, cut-line}
 
@@ -19,12 +20,13 @@ pub data Next : Type 0 where
   part : Next
   whole : ℕ → Chain → List ℕ → Next
 
--- a question is a role byte, the chain's length, 16 bits, low byte first, and the chain
+-- the question at the front is its role byte and its chain, of as many links as it says
 unfoldable pub next : List ℕ → Next
 next [] = nothing
-next (r ∷ []) = part
-next (r ∷ low ∷ []) = part
-next (r ∷ low ∷ high ∷ s) = cond (leb (low + 256 * high) (length s)) (whole r (take (low + 256 * high) s) (drop (low + 256 * high) s)) part
+next (r ∷ s) =
+    cond (leb (3 + links-of (r ∷ s)) (length (r ∷ s)))
+    (whole r (take (links-of (r ∷ s)) (drop 3 (r ∷ s))) (drop (3 + links-of (r ∷ s)) (r ∷ s)))
+    part
 
 -- the lines for the questions on the input, numbered from k on, where `Says` gives the answers
 pub data Transcript (Says : ℕ → Chain → Result Bool → Type 0) : ℕ → List ℕ → List ℕ → Type 0 where

@@ -30,12 +30,11 @@ next-whole (r ∷ low ∷ []) more h = absurd (let f : ⊥ = omega (arith, h) in
 next-whole (r ∷ low ∷ high ∷ s) more h =
     let n : ℕ = low + 256 * high in
     let fits : n ≤ length s = omega (arith, h) in
-    let longer : n ≤ length (s ++ more) = omega (arith, fits, length-append s more) in
+    let longer : 3 + n ≤ length (r ∷ low ∷ high ∷ s ++ more) = omega (arith, fits, length-append s more) in
     rw (
-      le-leb n (length (s ++ more)) longer,
+      le-leb (3 + n) (length (r ∷ low ∷ high ∷ s ++ more)) longer,
       take-append-le n s more fits,
-      drop-append-le n s more fits,
-      ← drop-drop n 3 (r ∷ low ∷ high ∷ s),
+      drop-append-le (3 + n) (r ∷ low ∷ high ∷ s) more h,
     )
     refl
 
@@ -43,11 +42,7 @@ next-whole (r ∷ low ∷ high ∷ s) more h =
 pub next-part : (s : List ℕ) → 1 ≤ length s → Broken s → next s ≡ part
 unfolding next
 next-part [] some h = absurd (let f : ⊥ = omega (arith, some) in f)
-next-part (r ∷ []) some h = refl
-next-part (r ∷ low ∷ []) some h = refl
-next-part (r ∷ low ∷ high ∷ s) some h =
-    let short : length s < low + 256 * high = omega (arith, h) in
-    rw (lt-leb (low + 256 * high) (length s) short) refl
+next-part (r ∷ s) some h = rw (lt-leb (3 + links-of (r ∷ s)) (length (r ∷ s)) h) refl
 
 -- answers that imply others
 pub transcript-map : (P Q : ℕ → Chain → Result Bool → Type 0) → ((r : ℕ) (w : Chain) (a : Result Bool) → P r w a → Q r w a) → (k : ℕ) (q out : List ℕ)

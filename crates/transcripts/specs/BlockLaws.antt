@@ -1,0 +1,123 @@
+-- Answering by blocks gives the lines of the joined input, whatever its blocks.
+use mathlib.Core.Bool.{Bool}
+use mathlib.Core.List.{List, [], _∷_, _++_, append-assoc, append-nil}
+use mathlib.Core.Logic.{_⊎_, inl, inr}
+use mathlib.Core.Path.{_≡_, refl, sym, ap, ap₂, _∙_}
+use Prim.Native.Nat.{ℕ, zero, suc, _+_, _-_, _*_, _<_, _≤_}
+use native.Mathlib.Omega.{arith}
+use lib.ListN.{length, getD, take, drop, length-append, length-drop}
+use Rattle.roles.specs.Tests.{lt-or-le, eq-or-ne}
+use Rattle.roles.specs.Role.{Chain}
+use Rattle.roles.specs.Rule.{Book}
+use Rattle.format.specs.Result.{Result}
+use Rattle.format.specs.Result.Result.{refused, ok}
+use Rattle.causes.specs.Built.{states-of, count-of, built}
+use Rattle.queries.specs.Input.{links-of, Whole, Broken}
+use Rattle.answers.specs.Reply.{Decided}
+use Rattle.transcripts.specs.Lines.{first-line, answer-line}
+use Rattle.transcripts.specs.LinesLaws.{line-short}
+use Rattle.transcripts.specs.Transcript.{next, Transcript, Session}
+use Rattle.transcripts.specs.Transcript.Next.{nothing, part, whole}
+use Rattle.transcripts.specs.Transcript.Transcript.{ended, cut, answered as line}
+use Rattle.transcripts.specs.Transcript.Session.{served}
+use Rattle.transcripts.specs.TranscriptLaws.{next-nothing, next-whole, next-part}
+use Rattle.transcripts.specs.OneTranscript.{nothing-whole, part-whole}
+use Rattle.transcripts.specs.Block.{Block, Blocks, joined, ending}
+use Rattle.transcripts.specs.Block.Stopped.{no-question, no-room, no-number}
+use Rattle.transcripts.specs.Block.Block.{stopped, answered}
+use Rattle.transcripts.specs.Block.Blocks.{none, more}
+
+-- a whole question, where the input ends with it or goes on
+pub next-here : (q : List ℕ) → Whole q → next q ≡ whole (getD q 0 0) (take (links-of q) (drop 3 q)) (drop (3 + links-of q) q)
+next-here q h = rw (append-nil q, append-nil (drop (3 + links-of q) q)) at (next-whole q [] h)
+
+-- what is not whole is nothing or a part
+pub broken-next : (q : List ℕ) → Broken q → (next q ≡ nothing) ⊎ (next q ≡ part)
+broken-next q h = by-length (eq-or-ne (length q) 0)
+  where
+    by-length : (length q ≡ 0) ⊎ (length q ≡ 0 → ⊥) → (next q ≡ nothing) ⊎ (next q ≡ part)
+    by-length (inl e) = inl (next-nothing q e)
+    by-length (inr e) = inr (next-part q (omega arith) h)
+
+pub broken-whole : (q : List ℕ) (r : ℕ) (w : Chain) (after : List ℕ) → Broken q → next q ≡ whole r w after → ⊥
+broken-whole q r w after h e = by-next (broken-next q h)
+  where
+    by-next : (next q ≡ nothing) ⊎ (next q ≡ part) → ⊥
+    by-next (inl f) = nothing-whole r w after (sym f ∙ e)
+    by-next (inr f) = part-whole r w after (sym f ∙ e)
+
+pub next-on : (q later : List ℕ) (r : ℕ) (w : Chain) (after : List ℕ) → next q ≡ whole r w after → next (q ++ later) ≡ whole r w (after ++ later)
+next-on q later r w after e = by-length (lt-or-le (length q) (3 + links-of q))
+  where
+    by-length : Broken q ⊎ Whole q → next (q ++ later) ≡ whole r w (after ++ later)
+    by-length (inl h) = absurd (broken-whole q r w after h e)
+    by-length (inr h) =
+        let f : whole r w after ≡ whole (getD q 0 0) (take (links-of q) (drop 3 q)) (drop (3 + links-of q) q) = sym e ∙ next-here q h in
+        let role : r ≡ getD q 0 0 = cc in
+        let chain : w ≡ take (links-of q) (drop 3 q) = cc in
+        let rest : after ≡ drop (3 + links-of q) q = cc in
+        rw (role, chain, rest) (next-whole q later h)
+
+-- a question takes three bytes or more
+next-shorter : (q : List ℕ) (r : ℕ) (w : Chain) (after : List ℕ) → next q ≡ whole r w after → 3 + length after ≤ length q
+next-shorter q r w after e = by-length (lt-or-le (length q) (3 + links-of q))
+  where
+    by-length : Broken q ⊎ Whole q → 3 + length after ≤ length q
+    by-length (inl h) = absurd (broken-whole q r w after h e)
+    by-length (inr h) =
+        let f : whole r w after ≡ whole (getD q 0 0) (take (links-of q) (drop 3 q)) (drop (3 + links-of q) q) = sym e ∙ next-here q h in
+        let rest : after ≡ drop (3 + links-of q) q = cc in
+        rw rest (omega (arith, h, length-drop (3 + links-of q) q))
+
+module _ {Says : ℕ → Chain → Result Bool → Type 0} where
+  -- the lines of what follows complete those of a block
+  pub block-completes : {k room k′ : ℕ} {q lines rest : List ℕ} → Block Says k q room lines k′ rest → (later out : List ℕ)
+      → Transcript Says k′ (rest ++ later) out → Transcript Says k (q ++ later) (lines ++ out)
+  block-completes (stopped h) later out t = t
+  block-completes (answered {k} {r = r} {q = q} {after} {lines} {w = w} {a} e h l s b) later out t =
+      rw (append-assoc (answer-line k a) lines out)
+      (line k (q ++ later) r w (after ++ later) a (lines ++ out) (next-on q later r w after e) s (block-completes b later out t))
+
+  -- so do those of the last block
+  pub blocks-complete : {k k′ : ℕ} {kept lines kept′ : List ℕ} {blocks : List (List ℕ)} → Blocks Says k kept blocks lines k′ kept′ → (out : List ℕ)
+      → Transcript Says k′ kept′ out → Transcript Says k (kept ++ joined blocks) (lines ++ out)
+  blocks-complete (none {kept = kept}) out t = rw (append-nil kept) t
+  blocks-complete (more {kept = kept} {block} {lines} {lines′ = lines′} {blocks = blocks} b bs) out t =
+      rw (append-assoc lines lines′ out, ← append-assoc kept block (joined blocks))
+      (block-completes b (joined blocks) (lines′ ++ out) (blocks-complete bs out t))
+
+  -- what is left at the end has the last line
+  pub transcript-ending : (k : ℕ) (q : List ℕ) → Broken q → Transcript Says k q (ending k q)
+  transcript-ending k q h = by-next (broken-next q h)
+    where
+      by-next : (next q ≡ nothing) ⊎ (next q ≡ part) → Transcript Says k q (ending k q)
+      by-next (inl e) = rw e (ended k q e)
+      by-next (inr e) = rw e (cut k q e)
+
+-- answers that imply others
+module _ {P Q : ℕ → Chain → Result Bool → Type 0} (f : (r : ℕ) (w : Chain) (a : Result Bool) → P r w a → Q r w a) where
+  block-map : {k room k′ : ℕ} {q lines rest : List ℕ} → Block P k q room lines k′ rest → Block Q k q room lines k′ rest
+  block-map (stopped h) = stopped h
+  block-map (answered {r = r} {w = w} {a} e h l s b) = answered e h l (f r w a s) (block-map b)
+
+  pub blocks-map : {k k′ : ℕ} {kept lines kept′ : List ℕ} {blocks : List (List ℕ)} → Blocks P k kept blocks lines k′ kept′
+      → Blocks Q k kept blocks lines k′ kept′
+  blocks-map none = none
+  blocks-map (more b bs) = more (block-map b) (blocks-map bs)
+
+-- the first line, the lines of the blocks and the last line are all that is written for the joined input
+pub session-blocks : (s : List ℕ) (b : Book) → built s 64 15360 ≡ ok b → {k : ℕ} {lines kept : List ℕ} {blocks : List (List ℕ)}
+    → Blocks (Decided b) 0 [] blocks lines k kept → Broken kept
+    → Session s (joined blocks) (first-line (ok (states-of b, count-of b)) ++ (lines ++ ending k kept))
+session-blocks s b e {k} {lines} {kept} bs h =
+    served b (lines ++ ending k kept) e (blocks-complete bs (ending k kept) (transcript-ending k kept h))
+
+-- where there is room for a line for every three bytes, no whole question is left
+module _ {Says : ℕ → Chain → Result Bool → Type 0} where
+  pub block-all : {k room k′ : ℕ} {q lines rest : List ℕ} → Block Says k q room lines k′ rest → 64 * length q ≤ 3 * room
+      → Broken rest ⊎ (18446744073709551615 ≤ k′)
+  block-all (stopped (no-question h)) room = inl h
+  block-all (stopped (no-room h)) room = inl (omega (arith, h, room))
+  block-all (stopped (no-number h)) room = inr h
+  block-all (answered {k} {room = space} {r = r} {q = q} {after} {w = w} {a} e h l s b) room =
+      block-all b (omega (arith, h, room, line-short k a, next-shorter q r w after e))
