@@ -23,7 +23,7 @@ use Rattle.builder.specs.Built.{counts-of, says, Builds}
 over-length : (new old : List ℕ) → length new ≤ length old → length (over new old) ≡ length old
 over-length new old h = omega (arith, length-append new (drop (length new) old), length-drop (length new) old)
 
-over-front : (n : ℕ) (new old : List ℕ) → n ≡ length new → take n (over new old) ≡ new
+pub over-front : (n : ℕ) (new old : List ℕ) → n ≡ length new → take n (over new old) ≡ new
 over-front n new old h = rw h (take-append-seam new (drop (length new) old))
 
 -- the book that a build has counted

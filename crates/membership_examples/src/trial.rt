@@ -52,7 +52,7 @@ pub(crate) fn try_made() {
 
 fn report(counts: [u64; 32]) {
     tell(
-        b"books made: \x8C\nbooks refused by causes 1 to 11: \x8D \x8E \x8F \x90 \x91 \x92 \x93 \x94 \x95 \x96 \x97\nbooks ok: \x98\nwith forms 1 to 5: \x9A \x9B \x9C \x9D \x9E\nwith a symmetric relation: \x9E\nwith an inverse right role: \x9F\nmost states: \x99\nderived chains: asked \x80, agreed \x81, yes \x82\nnearly derived chains: asked \x83, agreed \x84, yes \x85\nrandom chains: asked \x86, agreed \x87, yes \x88\n",
+        b"books made: \x8C\nbooks refused by causes 1 to 11: \x8D \x8E \x8F \x90 \x91 \x92 \x93 \x94 \x95 \x96 \x97\nbooks accepted: \x98\nwith forms 1 to 5: \x9A \x9B \x9C \x9D \x9E\nwith a symmetric relation: \x9E\nwith an inverse right role: \x9F\nmost states: \x99\nderived chains: asked \x80, agreed \x81, yes \x82\nnearly derived chains: asked \x83, agreed \x84, yes \x85\nrandom chains: asked \x86, agreed \x87, yes \x88\n",
         counts,
     );
 }

@@ -112,7 +112,7 @@ pub extern "C" fn rabbitsteel_ask(
     }
 }
 
-// TellsBuild and asks: causes 1 to 14, and the answer by derivation, 1 for yes, 0 for no. Refused: the value beside the cause, and the tables keep
+// Builds and asks: causes 1 to 14, and the answer by derivation, 1 for yes, 0 for no. Refused: the value beside the cause, and the tables keep
 // what they held.
 #[no_mangle]
 pub extern "C" fn rabbitsteel_derived(

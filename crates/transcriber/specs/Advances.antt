@@ -2,43 +2,49 @@
 use mathlib.Core.Bool.{true, false}
 use mathlib.Core.List.{List, _++_}
 use mathlib.Core.Path.{_≡_}
-use Prim.Native.Nat.{ℕ, _+_, _<_, _≤_}
-use lib.ListN.{length, drop}
+use Prim.Native.Nat.{ℕ, _+_, _-_, _<_, _≤_}
+use lib.ListN.{length, take, drop}
 use Rattle.queries.specs.Query.{Answered}
 use Rattle.queries.specs.Input.{Broken}
-use Rattle.transcripts.specs.Transcript.{next, Transcript}
-use Rattle.transcripts.specs.Transcript.Next.{nothing, part}
+use Rattle.transcripts.specs.Block.{Block}
 use Rattle.transcriber.specs.declared.block.Progress.{Progress}
+use Rattle.transcriber.specs.declared.block.Reached.{Reached}
 use Rattle.transcriber.specs.declared.block.Run.{Run}
 use Rattle.transcriber.specs.Puts.{Puts}
 
--- lines for a front part of the input q are put into the buffer: whatever follows on the input, the lines for the rest of it, with the numbers
--- from k′ on, complete them
-pub record Advanced (hs ms : List ℕ) (k : ℕ) (q out : List ℕ) (k′ read written : ℕ) (out′ : List ℕ) : Type 0 where
-  pub lines : List ℕ
-  pub puts : Puts out 0 lines out′ written
-  pub within : read ≤ length q
-  pub completes : (more rest : List ℕ) → Transcript (Answered hs ms) k′ (drop read q ++ more) rest
-      → Transcript (Answered hs ms) k (q ++ more) (lines ++ rest)
+module _ (hs ms : List ℕ) where
+  -- the block of the first `end` bytes of q is answered by the tables hs and ms: its lines stand at the front of the one buffer, what is not answered at
+  -- the front of the other, and all else in both is as it was. `OneBlock` shows that this settles the lines and the rest
+  pub record Answers (k : ℕ) (q : List ℕ) (end : ℕ) (out q′ out′ : List ℕ) (p : Progress) : Type 0 where
+    pub lines : List ℕ
+    pub rest : List ℕ
+    pub block : Block (Answered hs ms) k (take end q) (length out) lines (p .number) rest
+    pub puts : Puts out 0 lines out′ (p .written)
+    pub keeps : Puts q 0 rest q′ (p .kept)
 
--- why no more is read: no whole question is left, or no room for a line, or no number of 64 bits
-pub data Stopped (q out : List ℕ) (p : Progress) : Type 0 where
-  nothing-left : next (drop (p .read) q) ≡ nothing → Stopped q out p
-  part-left : next (drop (p .read) q) ≡ part → Stopped q out p
-  full : length out < p .written + 64 → Stopped q out p
-  counted-out : 18446744073709551615 ≤ p .number → Stopped q out p
+  -- the same, where the rest is left in its place
+  pub record Advances (k : ℕ) (q out out′ : List ℕ) (p : Reached) : Type 0 where
+    pub lines : List ℕ
+    pub block : Block (Answered hs ms) k q (length out) lines (p .number) (drop (p .read) q)
+    pub puts : Puts out 0 lines out′ (p .written)
+    pub within : p .read ≤ length q
 
-pub record Advances (hs ms : List ℕ) (k : ℕ) (q out out′ : List ℕ) (p : Progress) : Type 0 where
-  pub advanced : Advanced hs ms k q out (p .number) (p .read) (p .written) out′
-  pub stopped : Stopped q out p
+  -- questions at the front of q are answered: what answers the rest completes the block
+  pub record Advanced (k : ℕ) (q out : List ℕ) (k′ read written : ℕ) (out′ : List ℕ) : Type 0 where
+    pub lines : List ℕ
+    pub puts : Puts out 0 lines out′ written
+    pub within : read ≤ length q
+    pub completes : (lines′ : List ℕ) (k″ : ℕ) (rest : List ℕ) → Block (Answered hs ms) k′ (drop read q) (length out - written) lines′ k″ rest
+        → Block (Answered hs ms) k q (length out) (lines ++ lines′) k″ rest
 
--- lines for questions at the front of s are put into the buffer at a place; the run stays open only where it has read some
-pub record Runs (hs ms : List ℕ) (k : ℕ) (s out : List ℕ) (at : ℕ) (out′ : List ℕ) (r : Run) : Type 0 where
-  pub lines : List ℕ
-  pub puts : Puts out at lines out′ (r .written)
-  pub within : r .read ≤ length s
-  pub counted : k + r .answered ≤ 18446744073709551615
-  pub completes : (more rest : List ℕ) → Transcript (Answered hs ms) (k + r .answered) (drop (r .read) s ++ more) rest
-      → Transcript (Answered hs ms) k (s ++ more) (lines ++ rest)
-  pub goes : r .follows ≡ true → 0 < r .read
-  pub ends : r .follows ≡ false → Broken (drop (r .read) s)
+  -- lines for questions at the front of s are put into the buffer at a place; the run goes on only where it has read some
+  pub record Runs (k : ℕ) (s out : List ℕ) (at : ℕ) (out′ : List ℕ) (r : Run) : Type 0 where
+    pub lines : List ℕ
+    pub puts : Puts out at lines out′ (r .written)
+    pub within : r .read ≤ length s
+    pub counted : k + r .answered ≤ 18446744073709551615
+    pub completes : (lines′ : List ℕ) (k″ : ℕ) (rest : List ℕ)
+        → Block (Answered hs ms) (k + r .answered) (drop (r .read) s) (length out - r .written) lines′ k″ rest
+        → Block (Answered hs ms) k s (length out - at) (lines ++ lines′) k″ rest
+    pub goes : r .follows ≡ true → 0 < r .read
+    pub ends : r .follows ≡ false → Broken (drop (r .read) s)

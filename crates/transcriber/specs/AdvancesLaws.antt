@@ -2,30 +2,32 @@
 use mathlib.Core.Bool.{false}
 use mathlib.Core.List.{List, [], _∷_, _++_, append-assoc, append-nil}
 use mathlib.Core.Logic.{_⊎_, inl, inr}
-use mathlib.Core.Path.{_≡_, sym, ap, _∙_}
+use mathlib.Core.Path.{_≡_, refl, sym, ap, _∙_}
 use Prim.Native.Nat.{ℕ, suc, _+_, _-_, _*_, _<_, _≤_}
 use native.Mathlib.Omega.{arith}
-use borrow.Author.Tests.{eqb-true, eqb-false}
+use borrow.Author.Tests.{eqb-true, eqb-false, le-leb}
 use lib.Dec.{eqb}
 use lib.ListN.{length, getD, take, drop, length-append, length-drop}
 use lib.Seq.{drop-drop, take-suc, take-all, take-append-le, length-take-le}
 use Rattle.roles.specs.Tests.{eq-or-ne}
+use Rattle.texts.specs.Text.{between}
 use Rattle.queries.specs.Query.{Answered}
-use Rattle.queries.specs.Input.{Broken}
+use Rattle.queries.specs.Input.{links-of, Broken}
 use Rattle.transcripts.specs.Lines.{answer-line}
-use Rattle.transcripts.specs.Transcript.{Transcript}
-use Rattle.transcripts.specs.Transcript.Transcript.{answered}
-use Rattle.transcripts.specs.TranscriptLaws.{next-nothing, next-whole, next-part}
+use Rattle.transcripts.specs.LinesLaws.{line-short}
+use Rattle.transcripts.specs.Block.{Stopped, Block}
+use Rattle.transcripts.specs.Block.Stopped.{no-question, no-room, no-number}
+use Rattle.transcripts.specs.Block.Block.{stopped, answered}
+use Rattle.transcripts.specs.BlockLaws.{next-here}
 use Rattle.answerer.specs.Batch.{told, Batched, Batches}
 use Rattle.answerer.specs.Batch.Batched.{none, more}
 use Rattle.answerer.specs.declared.batch.Batch.{Batch}
-use Rattle.transcriber.specs.declared.block.Progress.{Progress}
+use Rattle.transcriber.specs.declared.block.Reached.{Reached}
 use Rattle.transcriber.specs.declared.block.Run.{Run}
 use Rattle.transcriber.specs.Puts.{Puts}
-use Rattle.transcriber.specs.PutsLaws.{puts-none, puts-then, puts-length}
+use Rattle.transcriber.specs.PutsLaws.{puts-none, puts-then, puts-as, puts-length}
 use Rattle.transcriber.specs.Said.{answer-lines}
-use Rattle.transcriber.specs.Advances.{Advanced, Stopped, Advances, Runs}
-use Rattle.transcriber.specs.Advances.Stopped.{nothing-left, part-left, full, counted-out}
+use Rattle.transcriber.specs.Advances.{Answers, Advances, Advanced, Runs}
 
 -- one more line
 lines-more : (k : ℕ) (bytes : List ℕ) (byte : ℕ) → answer-lines k (bytes ++ (byte ∷ [])) ≡ answer-lines k bytes ++ answer-line (k + length bytes) (told byte)
@@ -54,15 +56,25 @@ module _ (hs ms : List ℕ) where
   batched-some _ _ _ (none s) l = absurd (let f : ⊥ = omega (arith, l) in f)
   batched-some _ _ _ (more s byte n bytes w a b) l = omega arith
 
-  batched-completes : (s : List ℕ) (n : ℕ) (bytes : List ℕ) → Batched hs ms s n bytes → (k : ℕ) (later rest : List ℕ)
-      → Transcript (Answered hs ms) (k + length bytes) (drop n s ++ later) rest → Transcript (Answered hs ms) k (s ++ later) (answer-lines k bytes ++ rest)
-  batched-completes _ _ _ (none s) k later rest t = let same : k + 0 ≡ k = omega arith in rw same at t
-  batched-completes _ _ _ (more s byte n bytes w a b) k later rest t =
-      let links : ℕ = getD s 1 0 + 256 * getD s 2 0 in
+  -- with room and numbers for their lines, the answers are the front of a block
+  batched-completes : (s : List ℕ) (n : ℕ) (bytes : List ℕ) → Batched hs ms s n bytes → (k room : ℕ) (lines : List ℕ) (k′ : ℕ) (rest : List ℕ)
+      → 64 * length bytes ≤ room → k + length bytes ≤ 18446744073709551615
+      → Block (Answered hs ms) (k + length bytes) (drop n s) (room - length (answer-lines k bytes)) lines k′ rest
+      → Block (Answered hs ms) k s room (answer-lines k bytes ++ lines) k′ rest
+  batched-completes _ _ _ (none s) k room lines k′ rest fits few t =
+      let same : k + 0 ≡ k = omega arith in
+      let all : room - 0 ≡ room = omega arith in
+      rw (same, all) at t
+  batched-completes _ _ _ (more s byte n bytes w a b) k room lines k′ rest fits few t =
       let sum : k + suc (length bytes) ≡ suc k + length bytes = omega arith in
-      let ih = batched-completes (drop (3 + links) s) n bytes b (suc k) later rest (rw (sum, ← drop-drop n (3 + links) s) at t) in
-      rw (append-assoc (answer-line k (told byte)) (answer-lines (suc k) bytes) rest)
-      (answered k (s ++ later) _ _ _ (told byte) (answer-lines (suc k) bytes ++ rest) (next-whole s later w) a ih)
+      let short = line-short k (told byte) in
+      let left : room - length (answer-line k (told byte) ++ answer-lines (suc k) bytes)
+          ≡ room - length (answer-line k (told byte)) - length (answer-lines (suc k) bytes) =
+      omega (arith, length-append (answer-line k (told byte)) (answer-lines (suc k) bytes)) in
+      let ih = batched-completes (drop (3 + links-of s) s) n bytes b (suc k) (room - length (answer-line k (told byte))) lines k′ rest
+      (omega (arith, short, fits)) (omega (arith, few)) (rw (sum, left, ← drop-drop n (3 + links-of s) s) at t) in
+      rw (append-assoc (answer-line k (told byte)) (answer-lines (suc k) bytes) lines)
+      (answered {k = k} {room = room} (next-here s w) (omega (arith, fits)) (omega (arith, few)) a ih)
 
 -- the run that a batch gives, whose answers are lent the first `most` bytes of a buffer
 module _ (hs ms q : List ℕ) (most : ℕ) (buffer : List ℕ) (enough : most ≤ length buffer) (answers : List ℕ) (b : Batch) (p : Batches hs ms q (take most buffer) answers b) where
@@ -81,10 +93,10 @@ module _ (hs ms q : List ℕ) (most : ℕ) (buffer : List ℕ) (enough : most �
   pub lent-taken : length (take (b .answered) (answers ++ drop most buffer)) ≡ b .answered
   lent-taken = length-take-le (b .answered) (answers ++ drop most buffer) lent-fits
 
-  pub runs : (k : ℕ) (out : List ℕ) (at : ℕ) (out′ : List ℕ) (written : ℕ) → 1 ≤ most → k + most ≤ 18446744073709551615
+  pub runs : (k : ℕ) (out : List ℕ) (at : ℕ) (out′ : List ℕ) (written : ℕ) → 1 ≤ most → 64 * most ≤ length out - at → k + most ≤ 18446744073709551615
       → Puts out at (answer-lines k (take (b .answered) (answers ++ drop most buffer))) out′ written
       → Runs hs ms k q out at out′ (record { answered = b .answered; read = b .read; written = written; follows = eqb (b .answered) most })
-  runs k out at out′ written some few puts =
+  runs k out at out′ written some space few puts =
       let same : take (b .answered) (answers ++ drop most buffer) ≡ take (b .answered) answers = take-append-le (b .answered) answers (drop most buffer) lent-long in
       let long : length (take (b .answered) answers) ≡ b .answered = length-take-le (b .answered) answers lent-long in
       record {
@@ -92,7 +104,11 @@ module _ (hs ms q : List ℕ) (most : ℕ) (buffer : List ℕ) (enough : most �
         puts = rw same at puts;
         within = batched-within hs ms q (b .read) (take (b .answered) answers) (p .written);
         counted = omega (arith, lent-few);
-        completes = λ later rest t. batched-completes hs ms q (b .read) (take (b .answered) answers) (p .written) k later rest (rw long t);
+        completes = λ lines k″ rest t.
+            let ends : written ≡ at + length (answer-lines k (take (b .answered) answers)) = rw same at (puts .ends) in
+            let left : length out - at - length (answer-lines k (take (b .answered) answers)) ≡ length out - written = omega (arith, ends) in
+            batched-completes hs ms q (b .read) (take (b .answered) answers) (p .written) k (length out - at) lines k″ rest
+            (omega (arith, long, lent-few, space)) (omega (arith, long, lent-few, few)) (rw (long, left) t);
         goes = λ h.
             let all : b .answered ≡ most = eqb-true (b .answered) most h in
             batched-some hs ms q (b .read) (take (b .answered) answers) (p .written) (rw long (omega arith));
@@ -106,15 +122,43 @@ module _ (hs ms q : List ℕ) (most : ℕ) (buffer : List ℕ) (enough : most �
 module _ (hs ms : List ℕ) (k : ℕ) (q out : List ℕ) where
   -- nothing is read yet
   pub advanced-none : Advanced hs ms k q out k 0 0 out
-  advanced-none = record { lines = []; puts = puts-none out 0 (omega arith); within = omega arith; completes = λ more rest t. t }
+  advanced-none =
+      record {
+        lines = [];
+        puts = puts-none out 0 (omega arith);
+        within = omega arith;
+        completes = λ lines k″ rest b. let all : length out - 0 ≡ length out = omega arith in rw all at b;
+      }
 
   module _ (k′ read written : ℕ) (out′ : List ℕ) (a : Advanced hs ms k q out k′ read written out′) where
     -- what is written is within the buffer
+    same-room : length out′ ≡ length out
+    same-room = puts-length out (a .lines) out′ 0 written (a .puts)
+
     pub room : written ≤ length out′
-    room = rw (puts-length out (a .lines) out′ 0 written (a .puts)) (a .puts .fits)
+    room = rw same-room (a .puts .fits)
 
     pub room-left : 64 ≤ length out′ - written → written + 64 ≤ length out′
     room-left h = omega (arith, room, h)
+
+    -- why the loop ends
+    stopping : Stopped k′ (drop read q) (length out - written) → Advances hs ms k q out out′ (record { number = k′; read = read; written = written })
+    stopping h =
+        record {
+          lines = a .lines;
+          block = rw (append-nil (a .lines)) at (a .completes [] k′ (drop read q) (stopped h));
+          puts = a .puts;
+          within = a .within;
+        }
+
+    pub stopped-full : length out′ - written < 64 → Advances hs ms k q out out′ (record { number = k′; read = read; written = written })
+    stopped-full h = stopping (no-room (rw (← same-room) h))
+
+    pub stopped-number : 18446744073709551615 ≤ k′ → Advances hs ms k q out out′ (record { number = k′; read = read; written = written })
+    stopped-number h = stopping (no-number h)
+
+    pub stopped-broken : Broken (drop read q) → Advances hs ms k q out out′ (record { number = k′; read = read; written = written })
+    stopped-broken h = stopping (no-question h)
 
     -- one more run
     module _ (out″ : List ℕ) (r : Run) (lent : Runs hs ms k′ (take (length q - read) (drop read q)) out′ written out″ r) where
@@ -132,33 +176,31 @@ module _ (hs ms : List ℕ) (k : ℕ) (q out : List ℕ) where
             lines = a .lines ++ run .lines;
             puts = puts-then (a .puts) (run .puts);
             within = run-within;
-            completes = λ more rest t.
-                rw (append-assoc (a .lines) (run .lines) rest)
-                (a .completes more (run .lines ++ rest) (run .completes more rest (rw (drop-drop (r .read) read q) t)));
+            completes = λ lines k″ rest b.
+                rw (append-assoc (a .lines) (run .lines) lines)
+                (a .completes (run .lines ++ lines) k″ rest
+                (rw same-room at (run .completes lines k″ rest (rw (drop-drop (r .read) read q, same-room) b))));
           }
 
-      -- the run met no whole question more
-      pub stopped-broken : r .follows ≡ false → Advances hs ms k q out out″ (record { number = k′ + r .answered; read = read + r .read; written = r .written })
-      stopped-broken h = record { advanced = advanced-run; stopped = by-length (eq-or-ne (length (drop (read + r .read) q)) 0) }
-        where
-          broken : Broken (drop (read + r .read) q)
-          broken = rw (drop-drop (r .read) read q) at (run .ends h)
-
-          by-length : (length (drop (read + r .read) q) ≡ 0) ⊎ (length (drop (read + r .read) q) ≡ 0 → ⊥)
-              → Stopped q out (record { number = k′ + r .answered; read = read + r .read; written = r .written })
-          by-length (inl e) = nothing-left (next-nothing (drop (read + r .read) q) e)
-          by-length (inr e) = part-left (next-part (drop (read + r .read) q) (omega arith) broken)
-
-    -- why the loop ends
-    pub stopped-full : length out′ - written < 64 → Advances hs ms k q out out′ (record { number = k′; read = read; written = written })
-    stopped-full h =
-        let same : length out′ ≡ length out = puts-length out (a .lines) out′ 0 written (a .puts) in
-        record { advanced = a; stopped = full (omega (arith, same, h)) }
-
-    pub stopped-number : 18446744073709551615 ≤ k′ → Advances hs ms k q out out′ (record { number = k′; read = read; written = written })
-    stopped-number h = record { advanced = a; stopped = counted-out h }
+      pub run-broken : r .follows ≡ false → Broken (drop (read + r .read) q)
+      run-broken h = rw (drop-drop (r .read) read q) at (run .ends h)
 
 -- the same tables under other names
-pub advances-as : {hs ms hs′ ms′ q out out′ : List ℕ} {k : ℕ} {p : Progress} → hs ≡ hs′ → ms ≡ ms′ → Advances hs ms k q out out′ p
+pub advances-as : {hs ms hs′ ms′ q out out′ : List ℕ} {k : ℕ} {p : Reached} → hs ≡ hs′ → ms ≡ ms′ → Advances hs ms k q out out′ p
     → Advances hs′ ms′ k q out out′ p
 advances-as e f a = rw (← e, ← f) a
+
+-- what is left of a block is moved to the front of the input
+pub answers-kept : {hs ms q out out′ q′ : List ℕ} {k end size kept : ℕ} {p : Reached} → (size ≤ length q) × (take size q ≡ take end q)
+    → Advances hs ms k (take size q) out out′ p → Puts q 0 (between (p .read) size q) q′ kept
+    → Answers hs ms k q end out q′ out′ (record { number = p .number; kept = kept; written = p .written })
+answers-kept {q = q} {size = size} {p = p} front a keeps =
+    let long : length (take size q) ≡ size = length-take-le size q (front .0) in
+    let inside : p .read ≤ size = rw (← long) (a .within) in
+    record {
+      lines = a .lines;
+      rest = drop (p .read) (take size q);
+      block = rw (← front .1) (a .block);
+      puts = a .puts;
+      keeps = puts-as keeps (rw (le-leb (p .read) size inside, le-leb size (length q) (front .0)) refl);
+    }

@@ -1,16 +1,16 @@
 -- What the last line says by what was found.
-use mathlib.Core.List.{List, [], append-nil}
+use mathlib.Core.List.{List, []}
 use mathlib.Core.Path.{_≡_, refl, sym, ap, _∙_}
 use Prim.Native.Nat.{ℕ}
 use Rattle.transcripts.specs.Lines.{cut-line}
-use Rattle.transcripts.specs.TranscriptLaws.{next-whole}
+use Rattle.transcripts.specs.Block.{ending}
+use Rattle.transcripts.specs.BlockLaws.{next-here}
 use Rattle.transcriber.specs.declared.question.Question.{Question}
 use Rattle.transcriber.specs.declared.question.Question.the-variants.{Nothing, Part, Whole}
 use Rattle.transcriber.specs.Found.{Found}
 use Rattle.transcriber.specs.Found.Found.{found-nothing, found-part, found-whole}
 use Rattle.transcriber.specs.Puts.{Puts}
 use Rattle.transcriber.specs.PutsLaws.{puts-as}
-use Rattle.transcriber.specs.Said.{ending}
 
 -- the last line by what was found
 abbrev ending-of : ℕ → Question → List ℕ
@@ -21,10 +21,7 @@ ending-of k Whole = []
 ending-found : (k : ℕ) (q : List ℕ) (r : Question) → Found q r → ending-of k r ≡ ending k q
 ending-found k q _ (found-nothing e) = rw e refl
 ending-found k q _ (found-part e) = rw e refl
-ending-found k q _ (found-whole long) =
-    let front = next-whole q [] long in
-    let own = rw (append-nil q) at front in
-    rw own refl
+ending-found k q _ (found-whole long) = rw (next-here q long) refl
 
 pub puts-ending : {out text out′ q : List ℕ} {end : ℕ} (k : ℕ) (r v : Question) → Found q r → r ≡ v → Puts out 0 text out′ end → text ≡ ending-of k v
     → Puts out 0 (ending k q) out′ end

@@ -3,6 +3,8 @@ pub mod PutsLaws
 pub mod Said
 pub mod Found
 pub mod FoundLaws
+pub mod Opened
+pub mod OpenedLaws
 pub mod Advances
 pub mod AdvancesLaws
 pub mod KeptLaws

@@ -1,35 +1,64 @@
-// Blocks of input: the whole questions at the front of one are answered, and what is left is kept for the next.
+// Blocks of input: the whole questions of one are answered, and what is left is kept for the next.
 ghost use mathlib.Core.Path.{_≡_};
 ghost use Prim.Native.Nat.{_+_, _*_, _<_, _≤_};
 ghost use lib.ListN.{length, take};
 ghost use Rattle.texts.specs.Text.{between};
 ghost use Rattle.transcriber.specs.Puts.{Puts};
-ghost use Rattle.transcriber.specs.Advances.{Advances, Runs};
+ghost use Rattle.transcriber.specs.Opened.{heads-in, moves-in};
+ghost use Rattle.transcriber.specs.Advances.{Advances, Answers, Runs};
 use crate::line::put_answers;
-use builder::Counts;
+use crate::opening::Tables;
 
-// How far the questions are answered: the number of the next one, and how many bytes are read and written.
+// How far a block is answered: the number of the next question, how many bytes are kept for it at the front of the input, and how many are written.
 pub struct Progress {
     pub number: u64,
-    pub read: usize,
+    pub kept: usize,
     pub written: usize,
 }
 
-// Answers the whole questions at the front of the input, a line each, numbered from `number` on, while 64 bytes are left for a line. The tables
-// are the numbers that a build with these counts has written. What is not read is the front of the next block; what is not written keeps its value.
-pub fn answer_all(
-    heads: &[u16],
-    moves: &[u16],
-    counts: Counts,
-    number: u64,
-    input: &[u8],
-    out: &mut [u8],
-) -> Progress
-    ensures { λ r. ⌜ Advances (take (counts .names) (now (heads .entry))) (take (3 * counts .transitions) (now (moves .entry))) number (now (input .entry)) (now (out .entry)) (now (out .exit)) r ⌝ }
+// Answers the whole questions at the front of the input's first `end` bytes, a line each, numbered from `number` on, while 64 bytes are left for a line.
+// What is not answered is moved to the front of the input; what is not written keeps its value.
+pub fn answer_block(tables: Tables, number: u64, input: &mut [u8], end: usize, out: &mut [u8]) -> Progress
+    ensures { λ r. ⌜ Answers (heads-in tables) (moves-in tables) number (now (input .entry)) end (now (out .entry)) (now (input .exit)) (now (out .exit)) r ⌝ }
 {
+    let size = front_size(input, end);
+    let reached = answer_front(tables, number, &input[..size], out);
+    let read = reached.read;
+    Progress {
+        number: reached.number,
+        kept: keep(input, read, size),
+        written: reached.written,
+    }
+}
+
+// How many of the first `end` bytes there are.
+fn front_size(input: &[u8], end: usize) -> usize
+    ensures { λ r. ⌜ (r ≤ length (now (input .entry))) × (take r (now (input .entry)) ≡ take end (now (input .entry))) ⌝ }
+{
+    if input.len() < end {
+        return input.len();
+    }
+    end
+}
+
+// How far the questions are answered: the number of the next one, and how many bytes are read and written.
+struct Reached {
+    number: u64,
+    read: usize,
+    written: usize,
+}
+
+// Answers the whole questions at the front of the input by the tables, as many as there is room for.
+fn answer_front(tables: Tables, number: u64, input: &[u8], out: &mut [u8]) -> Reached
+    ensures { λ r. ⌜ Advances (heads-in tables) (moves-in tables) number (now (input .entry)) (now (out .entry)) (now (out .exit)) r ⌝ }
+{
+    let heads = tables.heads;
+    let moves = tables.moves;
+    let names = tables.names;
+    let transitions = tables.transitions;
     answer_each(
-        first(heads, counts.names),
-        triples(moves, counts.transitions),
+        first(&heads, names),
+        triples(&moves, transitions),
         number,
         input,
         out,
@@ -57,7 +86,7 @@ fn triples(moves: &[u16], count: usize) -> &[u16]
 }
 
 // Answers the whole questions at the front of the input by the tables, in runs.
-fn answer_each(heads: &[u16], moves: &[u16], number: u64, input: &[u8], out: &mut [u8]) -> Progress
+fn answer_each(heads: &[u16], moves: &[u16], number: u64, input: &[u8], out: &mut [u8]) -> Reached
     ensures { λ r. ⌜ Advances (now (heads .entry)) (now (moves .entry)) number (now (input .entry)) (now (out .entry)) (now (out .exit)) r ⌝ }
 {
     let mut next = number;
@@ -72,7 +101,7 @@ fn answer_each(heads: &[u16], moves: &[u16], number: u64, input: &[u8], out: &mu
             break;
         }
     }
-    Progress {
+    Reached {
         number: next,
         read: read,
         written: written,
@@ -128,7 +157,7 @@ fn lines_in(room: usize, number: u64) -> usize
 }
 
 // Moves the bytes from one place up to another to the front of the buffer, and returns how many there are; none where there are no such places.
-pub fn keep(buffer: &mut [u8], from: usize, end: usize) -> usize
+fn keep(buffer: &mut [u8], from: usize, end: usize) -> usize
     ensures { λ r. ⌜ Puts (now (buffer .entry)) 0 (between from end (now (buffer .entry))) (now (buffer .exit)) r ⌝ }
 {
     if end < from {

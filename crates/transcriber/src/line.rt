@@ -4,8 +4,9 @@ ghost use Prim.Native.Nat.{_+_, _*_, _≤_};
 ghost use lib.ListN.{length};
 ghost use Rattle.answerer.specs.Batch.{told};
 ghost use Rattle.transcripts.specs.Lines.{decimal, space, end-line, refused-word, first-line, answer-line, cut-line};
+ghost use Rattle.transcripts.specs.Block.{ending};
 ghost use Rattle.transcriber.specs.Puts.{Puts};
-ghost use Rattle.transcriber.specs.Said.{outcome-says, ending, answer-lines};
+ghost use Rattle.transcriber.specs.Said.{outcome-says, answer-lines};
 use crate::question::Question;
 use crate::question::find;
 use crate::text::put;
@@ -13,7 +14,7 @@ use crate::text::put_number;
 use builder::Outcome;
 
 // Puts the first line at the front of the buffer: the counts of the tables built, or the refusal; returns its length.
-pub fn first_line(outcome: Outcome, out: &mut [u8; 64]) -> usize
+pub(crate) fn first_line(outcome: Outcome, out: &mut [u8; 64]) -> usize
     ensures { λ r. ⌜ Puts (now (out .entry)) 0 (first-line (outcome-says outcome)) (now (out .exit)) r ⌝ }
 {
     match outcome {

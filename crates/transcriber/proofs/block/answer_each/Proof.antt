@@ -6,7 +6,7 @@ use Prim.Native.Nat.{_-_}
 use lib.ListN.{length}
 use Rattle.transcriber.specs.PutsLaws.{puts-length}
 use Rattle.transcriber.specs.Advances.{Advanced}
-use Rattle.transcriber.specs.AdvancesLaws.{room, room-left, advanced-none, run-within, advanced-run, stopped-broken, stopped-full, stopped-number}
+use Rattle.transcriber.specs.AdvancesLaws.{room, room-left, advanced-none, run-within, advanced-run, run-broken, stopped-broken, stopped-full, stopped-number}
 use Rattle.transcriber.proofs.block.answer_each.Statement.{statement}
 use Rattle.transcriber.proofs.block.answer_each.Tie as tie
 
@@ -62,7 +62,7 @@ same-length-3 : tie.Need-same-length-3 Inv-loop μ-loop
 same-length-3 c = puts-length _ _ _ _ _ (advanced-run _ _ _ _ _ _ _ _ _ (c .before .before .before .before .before .before .before .before .before .before .loop .inv) _ _ (c .before .before .before .before .before .answer-run .ensures) .puts)
 
 returns-3 : tie.Need-returns-3 Inv-loop μ-loop
-returns-3 c = stopped-broken _ _ _ _ _ _ _ _ _ (c .before .before .before .before .before .before .before .before .before .before .loop .inv) _ _ (c .before .before .before .before .before .answer-run .ensures) (not-true _ (c .if2 .taken))
+returns-3 c = stopped-broken _ _ _ _ _ _ _ _ _ (advanced-run _ _ _ _ _ _ _ _ _ (c .before .before .before .before .before .before .before .before .before .before .loop .inv) _ _ (c .before .before .before .before .before .answer-run .ensures)) (run-broken _ _ _ _ _ _ _ _ _ (c .before .before .before .before .before .before .before .before .before .before .loop .inv) _ _ (c .before .before .before .before .before .answer-run .ensures) (not-true _ (c .if2 .taken)))
 
 pub answer-each-spec : {M : Type 1} → statement M
 answer-each-spec =

@@ -36,7 +36,7 @@ same-length : tie.Need-same-length
 same-length c = search needs
 
 returns : tie.Need-returns
-returns c = runs (c .before .before .before .before .before .before .before .before .before .before .before .before .before .args .heads .now) (c .before .before .before .before .before .before .before .before .before .before .before .before .before .args .moves .now) (c .before .before .before .before .before .before .before .before .before .before .before .before .before .args .input .now) (c .before .before .before .before .before .before .before .before .lines-in .result) (replicate 1024 0) (c .before .before .before .before .before .before .before .before .lines-in .ensures .1) _ _ (c .before .before .before .before .before .before .ask-all .ensures) _ _ _ _ _ (c .before .before .before .before .before .before .before .before .lines-in .ensures .0) (c .before .before .before .before .before .before .before .before .lines-in .ensures .3) (c .before .before .put-answers .ensures)
+returns c = runs (c .before .before .before .before .before .before .before .before .before .before .before .before .before .args .heads .now) (c .before .before .before .before .before .before .before .before .before .before .before .before .before .args .moves .now) (c .before .before .before .before .before .before .before .before .before .before .before .before .before .args .input .now) (c .before .before .before .before .before .before .before .before .lines-in .result) (replicate 1024 0) (c .before .before .before .before .before .before .before .before .lines-in .ensures .1) _ _ (c .before .before .before .before .before .before .ask-all .ensures) _ _ _ _ _ (c .before .before .before .before .before .before .before .before .lines-in .ensures .0) (c .before .before .before .before .before .before .before .before .lines-in .ensures .2) (c .before .before .before .before .before .before .before .before .lines-in .ensures .3) (c .before .before .put-answers .ensures)
 
 pub answer-run-spec : {M : Type 1} → statement M
 answer-run-spec =
