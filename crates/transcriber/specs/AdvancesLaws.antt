@@ -69,7 +69,7 @@ module _ (hs ms : List ℕ) where
       let sum : k + suc (length bytes) ≡ suc k + length bytes = omega arith in
       let short = line-short k (told byte) in
       let left : room - length (answer-line k (told byte) ++ answer-lines (suc k) bytes)
-          ≡ room - length (answer-line k (told byte)) - length (answer-lines (suc k) bytes) =
+      ≡ room - length (answer-line k (told byte)) - length (answer-lines (suc k) bytes) =
       omega (arith, length-append (answer-line k (told byte)) (answer-lines (suc k) bytes)) in
       let ih = batched-completes (drop (3 + links-of s) s) n bytes b (suc k) (room - length (answer-line k (told byte))) lines k′ rest
       (omega (arith, short, fits)) (omega (arith, few)) (rw (sum, left, ← drop-drop n (3 + links-of s) s) at t) in

@@ -18,7 +18,13 @@ pub struct Progress {
 
 // Answers the whole questions at the front of the input's first `end` bytes, a line each, numbered from `number` on, while 64 bytes are left for a line.
 // What is not answered is moved to the front of the input; what is not written keeps its value.
-pub fn answer_block(tables: Tables, number: u64, input: &mut [u8], end: usize, out: &mut [u8]) -> Progress
+pub fn answer_block(
+    tables: Tables,
+    number: u64,
+    input: &mut [u8],
+    end: usize,
+    out: &mut [u8],
+) -> Progress
     ensures { λ r. ⌜ Answers (heads-in tables) (moves-in tables) number (now (input .entry)) end (now (out .entry)) (now (input .exit)) (now (out .exit)) r ⌝ }
 {
     let size = front_size(input, end);

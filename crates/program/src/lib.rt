@@ -1,0 +1,121 @@
+// What the program does: reads a book's file (a missing one counts as empty) and then questions from standard input, and writes the book's first line
+// and a line for each question. What it says is decided by `transcriber`; here are opening, reading, writing and the loop.
+ghost use mathlib.Core.Logic.{_⊎_};
+ghost use mathlib.Core.Path.{_≡_};
+ghost use Prim.Native.Nat.{_<_, _≤_};
+ghost use lib.ListN.{length, take};
+ghost use Rattle.io.specs.Counts.{Counts};
+ghost use Rattle.queries.specs.Input.{Broken};
+ghost use Rattle.queries.specs.Query.{Answered};
+ghost use Rattle.transcriber.specs.Opened.{heads-in, moves-in};
+ghost use Rattle.program.specs.Ran.{Ran, Served, Reads};
+use libc::STDIN_FILENO;
+use libc::STDOUT_FILENO;
+use transcriber::Tables;
+
+// Why the program stops.
+pub enum Stop {
+    // The book is refused, and its line is written.
+    Refused,
+    // The input has ended, and every line is written.
+    Ended,
+    // A line cannot be written.
+    Unwritten,
+    // No block or no question of a number of 64 bits is left.
+    Exhausted,
+}
+
+// Reads the book of that name and answers the questions about it. No promise can say what system calls read and write; this one says that what was read
+// as a book was refused or accepted, and that the blocks of input that were read were answered as document 01 lays down.
+pub fn run(path: &[u8]) -> Stop
+    ensures { λ r. ⌜ Ran r ⌝ }
+{
+    // Longer than any book, so that a file that is too long is seen to be.
+    let mut book = [0u8; 4096];
+    let mut line = [0u8; 64];
+    let size = read_book(path, &mut book);
+    let opening = transcriber::open(&book[..size], &mut line);
+    let written = opening.written;
+    if !io::write_all(STDOUT_FILENO, &line[..written]) {
+        return Stop::Unwritten;
+    }
+    if !opening.accepted {
+        return Stop::Refused;
+    }
+    let tables = opening.tables;
+    serve(tables)
+}
+
+// Reads the book's file to the front of the buffer; answers its length, or 0 where it cannot be opened. No book fills the buffer, so one that does is
+// seen to be too long.
+fn read_book(path: &[u8], book: &mut [u8]) -> usize
+    requires { ⌜ 2568 < length (now book) ⌝ }
+    ensures { λ r. ⌜ Counts r (now (book .exit)) ⌝ }
+    ensures { λ r. ⌜ (r ≤ 2568 → r < length (now (book .exit))) ⌝ }
+{
+    let fd = os::open_read(path);
+    if fd < 0 {
+        return 0;
+    }
+    let size = io::read_full(fd, book);
+    libc::close(fd);
+    size
+}
+
+// Answers questions until the input ends. A proved loop has to end, so this one counts its turns down from a number that no run uses up.
+fn serve(tables: Tables) -> Stop
+    ensures { λ r. ⌜ Served (Answered (heads-in tables) (moves-in tables)) r ⌝ }
+{
+    // Holds the longest question, of 65,535 links, so that what is kept leaves room to read.
+    let mut input = [0u8; 65538];
+    // A line of up to 64 bytes for every three bytes of input.
+    let mut out = [0u8; 1398144];
+    let mut number = 0u64;
+    let mut kept = 0;
+    let mut turns = u64::MAX;
+    while 0 < turns && number < u64::MAX {
+        let end = read_more(&mut input, kept);
+        if end <= kept {
+            return finish(number, kept, &input);
+        }
+        let progress = transcriber::answer_block(tables, number, &mut input, end, &mut out);
+        number = progress.number;
+        kept = progress.kept;
+        let written = progress.written;
+        if !io::write_all(STDOUT_FILENO, &out[..written]) {
+            return Stop::Unwritten;
+        }
+        turns -= 1;
+    }
+    Stop::Exhausted
+}
+
+// Reads once, after the bytes that are kept, which stay; answers where the bytes in the buffer end. What is kept is no whole question, so there is room.
+fn read_more(input: &mut [u8], kept: usize) -> usize
+    requires { ⌜ (65538 ≤ length (now input)) × (kept ≤ length (now input)) × Broken (take kept (now input)) ⌝ }
+    ensures { λ r. ⌜ Reads kept (now (input .entry)) (now (input .exit)) r ⌝ }
+{
+    kept + read_once(&mut input[kept..])
+}
+
+// Reads once to the front of a buffer; answers how many bytes, or 0 where the input has ended.
+fn read_once(buffer: &mut [u8]) -> usize
+    requires { ⌜ 0 < length (now buffer) ⌝ }
+    ensures { λ r. ⌜ r ≤ length (now (buffer .exit)) ⌝ }
+{
+    let got = libc::read(STDIN_FILENO, buffer);
+    io::count(got, buffer)
+}
+
+// Writes the last line, of the bytes that are kept when the input has ended.
+fn finish(number: u64, kept: usize, input: &[u8]) -> Stop
+    requires { ⌜ kept ≤ length (now input) ⌝ }
+    ensures { λ r. ⌜ (r ≡ Stop.Ended) ⊎ (r ≡ Stop.Unwritten) ⌝ }
+{
+    let mut line = [0u8; 64];
+    let size = transcriber::last_line(number, &input[..kept], &mut line);
+    if !io::write_all(STDOUT_FILENO, &line[..size]) {
+        return Stop::Unwritten;
+    }
+    Stop::Ended
+}
