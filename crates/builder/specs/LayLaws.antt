@@ -8,9 +8,10 @@ use Rattle.order.specs.Shape as Order
 use Rattle.format.specs.Place.{rule-at}
 use Rattle.layout.specs.Linked.{rule}
 use Rattle.layout.specs.Indexed.{Indexed, place-in}
-use Rattle.orderer.specs.Shape.{shape-in, Shaped}
+use Rattle.orderer.specs.Shape.{shape-in, shape-found}
+use Rattle.orderer.specs.ShapeLaws.{found-shape}
 use Rattle.orderer.specs.declared.shape.Shape.{Shape}
 
 pub rule-shape : (s : List ℕ) (ρs : List Rule) (ix : List ℕ) → Indexed s ρs ix → (k at : ℕ) → k < length ρs → at ≡ place-in ix k
-    → (sh : Shape) → Shaped (rule-at s at .left) (rule-at s at .right) sh → shape-in (rule-at s at .left) sh ≡ Order.shape (rule ρs k)
-rule-shape s ρs ix i k at h e sh d = d .shape ∙ ap Order.shape (ap (rule-at s) e ∙ i .place k h)
+    → (sh : Shape) → sh ≡ shape-found (rule-at s at .left) (rule-at s at .right) → shape-in (rule-at s at .left) sh ≡ Order.shape (rule ρs k)
+rule-shape s ρs ix i k at h e sh d = found-shape (rule-at s at .left) (rule-at s at .right) sh d ∙ ap Order.shape (ap (rule-at s) e ∙ i .place k h)

@@ -20,7 +20,8 @@ use Rattle.layout.specs.Linked.{rule}
 use Rattle.layout.specs.Indexed.{Indexed, place-in, level-in}
 use Rattle.layout.specs.IndexedLaws.{rule-member}
 use Rattle.layout.specs.Facing.{Row-laid, row-straight, row-turned, row-none, part-part, inner-low}
-use Rattle.orderer.specs.Shape.{end, shape-in, Shaped, Within}
+use Rattle.orderer.specs.Shape.{end, shape-in, shape-found, Within}
+use Rattle.orderer.specs.ShapeLaws.{found-within}
 use Rattle.orderer.specs.declared.shape.Row.{Row as Inner}
 use Rattle.orderer.specs.declared.shape.Shape.{Shape}
 use Rattle.orderer.specs.declared.shape.Shape.the-variants.{Transitive, Symmetric, Row}
@@ -54,7 +55,7 @@ module _ (s ix : List ℕ) (k at : ℕ) (e : at ≡ place-in ix k) where
     unfolding rule-at
     right-here = ap (λ (ρ : Rule). ρ .right) (sym found)
 
-  module _ (sh : Shape) (d : Shaped (rule-at s at .left) (rule-at s at .right) sh) (inner : Inner) (g : sh ≡ Row inner) where
+  module _ (sh : Shape) (d : sh ≡ shape-found (rule-at s at .left) (rule-at s at .right)) (inner : Inner) (g : sh ≡ Row inner) where
     -- the bytes of the inner roles
     abbrev pub start : ℕ
     start = at + 2 + inner .start
@@ -63,7 +64,7 @@ module _ (s ix : List ℕ) (k at : ℕ) (e : at ≡ place-in ix k) where
     bytes = take (start + inner .size - start) (drop start s)
 
     within : inner .start + inner .size ≤ length (rule-at s at .left)
-    within = subst (Within (rule-at s at .left)) g (d .within)
+    within = subst (Within (rule-at s at .left)) g (found-within (rule-at s at .left) (rule-at s at .right) sh d)
 
     module _ (w : Whole s at) where
       size-here : length (rule-at s at .left) ≡ size-at s at
@@ -94,7 +95,7 @@ module _ (s ix : List ℕ) (k at : ℕ) (e : at ≡ place-in ix k) where
           (rw (found ρs i h) at within) (rw (found ρs i h) at shape-here)))
 
 -- the row that rule k adds to a fragment of r at an initial state, laid between two places
-module _ (s ix : List ℕ) (k at : ℕ) (e : at ≡ place-in ix k) (sh : Shape) (d : Shaped (rule-at s at .left) (rule-at s at .right) sh)
+module _ (s ix : List ℕ) (k at : ℕ) (e : at ≡ place-in ix k) (sh : Shape) (d : sh ≡ shape-found (rule-at s at .left) (rule-at s at .right))
     (r initial : ℕ) (here : (ρs : List Rule) → Indexed s ρs ix → (k < length ρs) × (name (rule ρs k .right) ≡ name r)) (p : Place) (m : List ℕ) where
   abbrev pub Rule-laid : Place → List ℕ → Type 0
   Rule-laid q n =

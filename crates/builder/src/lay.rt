@@ -16,7 +16,7 @@ ghost use Rattle.layout.specs.Fragment.{second-letter, back-of, own-letters};
 ghost use Rattle.format.specs.Place.{rule-at};
 ghost use Rattle.format.specs.FormatLaws.{Whole};
 ghost use Rattle.layout.specs.Own.{is-symmetric as symmetric-shape, is-transitive as transitive-shape};
-ghost use Rattle.orderer.specs.Shape.{end, shape-in, Shaped};
+ghost use Rattle.orderer.specs.Shape.{end, shape-in, shape-found};
 ghost use Rattle.builder.specs.Lay.{Small, Ready, Lays, Inner-below, Roots};
 ghost use Rattle.builder.specs.Memo.{Memo};
 use crate::index::first_of;
@@ -407,7 +407,7 @@ fn is_transitive(shape: Shape) -> bool
 // The shape of the rule that begins at a place.
 fn shape_at(book: &[u8], at: usize) -> Shape
     requires { ⌜ Whole (now book) at ⌝ }
-    ensures { λ r. ⌜ Shaped (rule-at (now (book .entry)) at .left) (rule-at (now (book .entry)) at .right) r ⌝ }
+    ensures { λ r. ⌜ r ≡ shape-found (rule-at (now (book .entry)) at .left) (rule-at (now (book .entry)) at .right) ⌝ }
 {
     let right = book[at];
     let size = book[at + 1] as usize;

@@ -20,14 +20,15 @@ use Rattle.orderer.specs.declared.shape.Shape.{Shape}
 use Rattle.orderer.specs.declared.shape.Shape.the-variants.{Transitive, Symmetric, Row}
 use Rattle.orderer.specs.declared.Gathered.{Gathered}
 use Rattle.orderer.specs.declared.Gathered.the-variants.{Extends, Clash}
-use Rattle.orderer.specs.Shape.{Shaped, shape-in}
+use Rattle.orderer.specs.Shape.{shape-found, shape-in, Within}
+use Rattle.orderer.specs.ShapeLaws.{found-shape, found-within}
 use Rattle.orderer.specs.Gather.{gathered}
 use Rattle.orderer.specs.Gather as Gather
 
 -- the inner roles of a rule by the shape that the code finds: none, or the part that a row names
-module _ (w : Chain) (r : ℕ) (sh : Shape) (d : Shaped w r sh) where
+module _ (w : Chain) (r : ℕ) (sh : Shape) (d : sh ≡ shape-found w r) where
   pub no-inner : ((row : Inner) → sh ≡ Row row → ⊥) → inner-of (Order.shape (record { left = w; right = r })) ≡ []
-  no-inner h = ap inner-of (sym (d .shape)) ∙ by-shape sh h
+  no-inner h = ap inner-of (sym (found-shape w r sh d)) ∙ by-shape sh h
     where
       by-shape : (sh : Shape) → ((row : Inner) → sh ≡ Row row → ⊥) → inner-of (shape-in w sh) ≡ []
       by-shape Transitive n = refl
@@ -36,11 +37,11 @@ module _ (w : Chain) (r : ℕ) (sh : Shape) (d : Shaped w r sh) where
 
   module _ (row : Inner) (e : sh ≡ Row row) where
     pub row-within : row .start + row .size ≤ length w
-    row-within = (rw e at d) .within
+    row-within = subst (Within w) e (found-within w r sh d)
 
     pub row-inner : inner-of (Order.shape (record { left = w; right = r })) ≡ take (row .start + row .size - row .start) (drop (row .start) w)
     row-inner =
-        ap inner-of (sym ((rw e at d) .shape))
+        ap inner-of (sym (found-shape w r sh d) ∙ ap (shape-in w) e)
         ∙ ap (λ (k : ℕ). take k (drop (row .start) w)) (sym (add-sub-cancel-left (row .start) (row .size)))
 
 -- what adding the rule answers, and the masks that it leaves

@@ -1,7 +1,7 @@
 // The shape of a rule, by its letters: which of document 01's five forms it can have, and where its inner roles lie in its left side.
 ghost use mathlib.Core.Bool.{true, false};
 ghost use mathlib.Core.Path.{_≡_};
-ghost use Rattle.orderer.specs.Shape.{Shaped};
+ghost use Rattle.orderer.specs.Shape.{shape-found};
 use role_bytes::inverse;
 
 pub enum Shape {
@@ -21,9 +21,10 @@ pub struct Row {
     pub size: usize,
 }
 
-// The shape of a rule with a left side and a right role. The row of a rule without a left role is empty.
+// The shape of a rule with a left side and a right role. Inner roles begin after the first left role in form 2, and with it in forms 1 and 3. The row
+// of a rule without a left role is empty.
 pub fn shape_of(left: &[u8], right: u8) -> Shape
-    ensures { λ r. ⌜ Shaped (now (left .entry)) right r ⌝ }
+    ensures { λ r. ⌜ r ≡ shape-found (now (left .entry)) right ⌝ }
 {
     let size = left.len();
     if size == 0 {
