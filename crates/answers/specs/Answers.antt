@@ -26,7 +26,7 @@ use Rattle.causes.specs.Ordered.{ordered, Judged}
 use Rattle.causes.specs.Ordered.Judged.{has-order, none}
 use Rattle.causes.specs.GatherLaws.{ordered-read, ordered-judged}
 use Rattle.causes.specs.Built.{states-of, count-of, heads-of, moves-of, built}
-use Rattle.causes.specs.BuiltLaws.{Passed, built-passed}
+use Rattle.causes.specs.BuiltLaws.{Passed, accepted-passed, built-accepted}
 use Rattle.layout.specs.Pieces.{length-numbers, length-roots}
 use Rattle.queries.specs.Query.{transitions-in, heads-fit, transitions-fit, tables-fit, question, query, asked, Accepts}
 use Rattle.automata.specs.Every.{Every, every-tail}
@@ -99,8 +99,8 @@ judged-regular b _ (has-order g) h = g
 judged-regular b _ (none k l front bad) h = absurd (refused-ok 8 k b h)
 
 module _ (s : List ℕ) (heads moves : ℕ) (b : Book) (e : built s heads moves ≡ ok b) where
-  passed : Passed s heads moves b
-  passed = built-passed heads moves s b e
+  passed : Passed s b
+  passed = accepted-passed s b (built-accepted s heads moves b e)
 
   well-read : read s ≡ ok b
   well-read = ordered-read s b (passed .ordered)

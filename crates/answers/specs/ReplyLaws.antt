@@ -16,7 +16,7 @@ use Rattle.format.specs.DecodeLaws.{decoded}
 use Rattle.format.specs.ReadLaws.{read-decode}
 use Rattle.causes.specs.GatherLaws.{ordered-read}
 use Rattle.causes.specs.Built.{heads-of, moves-of, built}
-use Rattle.causes.specs.BuiltLaws.{built-passed}
+use Rattle.causes.specs.BuiltLaws.{accepted-passed, built-accepted}
 use Rattle.queries.specs.Query.{chain-fits, question, Answered}
 use Rattle.queries.specs.Query.Answered.{refuses as refused-by-tables, yes as yes-by-tables, no as no-by-tables}
 use Rattle.answers.specs.Answers.{query-question, accepts-derives}
@@ -43,7 +43,7 @@ module _ (s : List ℕ) (heads moves : ℕ) (b : Book) (e : built s heads moves 
 module _ (s : List ℕ) (heads moves : ℕ) where
   -- a built book has the names that its sixth byte says
   pub built-names : (b : Book) → built s heads moves ≡ ok b → b .names ≡ getD s 5 0
-  built-names b e = decoded s b (read-decode s b (ordered-read s b (built-passed heads moves s b e .ordered))) .names
+  built-names b e = decoded s b (read-decode s b (ordered-read s b (accepted-passed s b (built-accepted s heads moves b e) .ordered))) .names
 
   module _ (r : ℕ) (w : Chain) where
     own-question : (b : Book) → built s heads moves ≡ ok b → question (b .names) r w ≡ question (getD s 5 0) r w

@@ -12,7 +12,7 @@ use Rattle.format.specs.Format.{read}
 use Rattle.format.specs.ReadLaws.{read-few-names}
 use Rattle.causes.specs.Ordered as Ordered
 use Rattle.causes.specs.GatherLaws.{ordered-read}
-use Rattle.causes.specs.BuiltLaws.{built-refused}
+use Rattle.causes.specs.BuiltLaws.{accepted-refused, built-refused}
 use Rattle.layout.specs.Indexed.{Indexed, level-in}
 use Rattle.refusals.specs.declared.refusal.Refusal.{Refusal}
 use Rattle.decoder.specs.declared.verdict.Header.{Header}
@@ -63,7 +63,7 @@ module _ (s : List ℕ) (o : Ordering) (a : Gather.Ordered s o) where
   pub build-refused : (heads moves : List ℕ) (r : Refusal) → o .verdict ≡ Refused r → Builds s heads moves heads moves (outcome.Refused r)
   build-refused heads moves r e =
       builds-refused s heads moves r (built-refused s (length heads) (length moves) (cause-of r) (value-of r)
-      (by-result (Ordered.ordered s) refl (sym (ap says e) ∙ a .verdict)))
+      (accepted-refused s (cause-of r) (value-of r) (by-result (Ordered.ordered s) refl (sym (ap says e) ∙ a .verdict))))
     where
       by-result : (x : Result Book) → Ordered.ordered s ≡ x → refused (cause-of r) (value-of r) ≡ map-result header-of (Ordered.ordered s)
           → Ordered.ordered s ≡ refused (cause-of r) (value-of r)

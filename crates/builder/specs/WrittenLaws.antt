@@ -1,4 +1,5 @@
--- What a build that succeeds has written: the tables of the book, at the front of the lent ones.
+-- What a build that succeeds has written: the tables of the book, at the front of the lent ones; and that an accepted book's build succeeds where
+-- these are long enough.
 use mathlib.Core.List.{List, []}
 use mathlib.Core.Path.{_≡_, refl, sym, ap, _∙_}
 use Prim.Native.Nat.{ℕ, _*_, _≤_}
@@ -10,12 +11,13 @@ use Rattle.tables.specs.Tables.{transitions}
 use Rattle.format.specs.Result.{Result, map-result}
 use Rattle.format.specs.Result.Result.{refused, ok}
 use Rattle.format.specs.ResultLaws.{refused-ok, ok-injective}
-use Rattle.causes.specs.Built.{count-of, heads-of, moves-of, built, over}
-use Rattle.causes.specs.BuiltLaws.{Passed, built-passed}
+use Rattle.causes.specs.Built.{count-of, heads-of, moves-of, accepted, built, over}
+use Rattle.causes.specs.BuiltLaws.{accepted-passed, accepted-built, built-accepted, enough-heads, enough-moves}
 use Rattle.layout.specs.Pieces.{length-numbers, length-roots}
 use Rattle.refusals.specs.declared.refusal.Refusal.{Refusal}
 use Rattle.refusals.specs.Refusal.{cause-of, value-of}
 use Rattle.builder.specs.declared.Counts.{Counts}
+use Rattle.builder.specs.declared.Outcome.{Outcome}
 use Rattle.builder.specs.declared.Outcome.the-variants.{Built, Refused}
 use Rattle.builder.specs.Built.{counts-of, says, Builds}
 
@@ -48,8 +50,11 @@ module _ (s h m h′ m′ : List ℕ) where
     pub own : Counted s h m c
     own = counted c p
 
-    passed : Passed s (length h) (length m) (own .book)
-    passed = built-passed (length h) (length m) s (own .book) (own .accepts)
+    long-heads : own .book .names ≤ length h
+    long-heads = enough-heads s (length h) (length m) (own .book) (own .accepts)
+
+    long-moves : 3 * count-of (own .book) ≤ length m
+    long-moves = enough-moves s (length h) (length m) (own .book) (own .accepts)
 
     roots : length (heads-of (own .book)) ≡ own .book .names
     roots = length-roots (own .book .rules) (own .book .names) (own .book .names) 0 0
@@ -64,7 +69,7 @@ module _ (s h m h′ m′ : List ℕ) where
     count = ap (λ (k : Counts). k .transitions) (own .same)
 
     pub few-numbers : 3 * c .transitions ≤ 15360
-    few-numbers = omega (arith, count, passed .count)
+    few-numbers = omega (arith, count, accepted-passed s (own .book) (built-accepted s (length h) (length m) (own .book) (own .accepts)) .count)
 
     -- the tables after the build, and the numbers written
     wrote-heads : h′ ≡ over (heads-of (own .book)) h
@@ -75,13 +80,13 @@ module _ (s h m h′ m′ : List ℕ) where
 
     pub names-lent : c .names ≤ length h′
     names-lent =
-        let l : length (over (heads-of (own .book)) h) ≡ length h = over-length (heads-of (own .book)) h (rw roots (passed .names)) in
-        rw (wrote-heads, l, names) (passed .names)
+        let l : length (over (heads-of (own .book)) h) ≡ length h = over-length (heads-of (own .book)) h (rw roots long-heads) in
+        rw (wrote-heads, l, names) long-heads
 
     pub numbers-lent : 3 * c .transitions ≤ length m′
     numbers-lent =
-        let l : length (over (moves-of (own .book)) m) ≡ length m = over-length (moves-of (own .book)) m (rw three (passed .numbers)) in
-        rw (wrote-moves, l, count) (passed .numbers)
+        let l : length (over (moves-of (own .book)) m) ≡ length m = over-length (moves-of (own .book)) m (rw three long-moves) in
+        rw (wrote-moves, l, count) long-moves
 
     pub written-heads : take (c .names) h′ ≡ heads-of (own .book)
     written-heads = ap (take (c .names)) wrote-heads ∙ over-front (c .names) (heads-of (own .book)) h (names ∙ sym roots)
@@ -98,3 +103,30 @@ module _ (s h m h′ m′ : List ℕ) where
       by-result : (t : Result Book) → says (Refused x) ≡ map-result counts-of t → t ≡ refused (cause-of x) (value-of x)
       by-result (refused cause value) f = sym (ap (map-result (λ (k : Counts). counted-none)) f)
       by-result (ok b) f = absurd (refused-ok (cause-of x) (value-of x) (counts-of b) f)
+
+-- a build tells the counts of a book, and two tables begin with the book's
+pub record Tables-of (b : Book) (h m : List ℕ) (r : Outcome) : Type 0 where
+  pub answer : r ≡ Built (counts-of b)
+  pub heads : take (b .names) h ≡ heads-of b
+  pub moves : take (3 * count-of b) m ≡ moves-of b
+
+-- an accepted book is built where the lent tables are long enough: its counts are told, and its tables stand at the fronts of the lent ones
+pub accepted-written : (s h m h′ m′ : List ℕ) (r : Outcome) (b : Book) → Builds s h m h′ m′ r → accepted s ≡ ok b → b .names ≤ length h
+    → 3 * count-of b ≤ length m → Tables-of b h′ m′ r
+accepted-written s h m h′ m′ r b p a long-heads long-moves =
+    record {
+      answer = by-answer r (p .answer ∙ ap (map-result counts-of) e);
+      heads =
+          ap (take (b .names)) (p .heads ∙ rw e refl)
+          ∙ over-front (b .names) (heads-of b) h (sym (length-roots (b .rules) (b .names) (b .names) 0 0));
+      moves =
+          ap (take (3 * count-of b)) (p .moves ∙ rw e refl)
+          ∙ over-front (3 * count-of b) (moves-of b) m (sym (length-numbers (transitions (b .names) (b .rules))));
+    }
+  where
+    e : built s (length h) (length m) ≡ ok b
+    e = accepted-built s (length h) (length m) b a long-heads long-moves
+
+    by-answer : (r : Outcome) → says r ≡ ok (counts-of b) → r ≡ Built (counts-of b)
+    by-answer (Built c) f = ap Built (ok-injective c (counts-of b) f)
+    by-answer (Refused x) f = absurd (refused-ok (cause-of x) (value-of x) (counts-of b) f)

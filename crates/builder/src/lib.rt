@@ -1,4 +1,9 @@
 // The table builder: causes 1 to 11, and the tables of an accepted book in lent memory.
+ghost use mathlib.Core.Bool.{_&&_};
+ghost use mathlib.Core.Path.{_≡_};
+ghost use Prim.Native.Nat.{_*_, _≤_};
+ghost use lib.Dec.{leb};
+ghost use Rattle.refusals.specs.Check.{check};
 ghost use Rattle.builder.specs.Built.{Prepared, Builds};
 
 mod index;
@@ -8,6 +13,7 @@ mod memo;
 use decoder::Verdict;
 use index::fill;
 use lay::roots;
+use refusals::Check;
 use refusals::Refusal;
 
 // How many names, states and transitions the tables have: their numbers are the first `names` heads and the first 3 `transitions` moves.
@@ -56,22 +62,53 @@ fn lay_tables(
     let end = roots(book, index, names, &mut no_heads, &mut no_moves);
     let states = end.state;
     let count = end.count;
-    if 2048 < states {
+    let Check::Passed = few_states(states) else {
         return Outcome::Refused(Refusal::States);
-    }
-    if 5120 < count {
+    };
+    let Check::Passed = few_transitions(count) else {
         return Outcome::Refused(Refusal::Transitions);
-    }
-    if heads.len() < names {
+    };
+    let Check::Passed = long_enough(names, count, heads.len(), moves.len()) else {
         return Outcome::Refused(Refusal::Short);
-    }
-    if moves.len() < 3 * count {
-        return Outcome::Refused(Refusal::Short);
-    }
+    };
     roots(book, index, names, heads, moves);
     Outcome::Built(Counts {
         names: names,
         states: states,
         transitions: count,
     })
+}
+
+// Cause 9: at most 2,048 states.
+fn few_states(states: usize) -> Check
+    ensures { λ r. ⌜ r ≡ check (leb states 2048) ⌝ }
+{
+    if 2048 < states {
+        return Check::Failed;
+    }
+    Check::Passed
+}
+
+// Cause 10: at most 5,120 transitions.
+fn few_transitions(transitions: usize) -> Check
+    ensures { λ r. ⌜ r ≡ check (leb transitions 5120) ⌝ }
+{
+    if 5120 < transitions {
+        return Check::Failed;
+    }
+    Check::Passed
+}
+
+// Cause 11: so many heads and moves are lent as the names and transitions need.
+fn long_enough(names: usize, transitions: usize, heads: usize, moves: usize) -> Check
+    requires { ⌜ transitions ≤ 5120 ⌝ }
+    ensures { λ r. ⌜ r ≡ check (leb names heads && leb (3 * transitions) moves) ⌝ }
+{
+    if heads < names {
+        return Check::Failed;
+    }
+    if moves < 3 * transitions {
+        return Check::Failed;
+    }
+    Check::Passed
 }

@@ -1,4 +1,4 @@
--- Causes 9 to 11, and what a build writes: the tables of a book with a regular order, in lent tables of some lengths.
+-- Causes 9 to 11: when a book is accepted, and when it is built in lent tables of some lengths, with what a build writes there.
 use mathlib.Core.Bool.{Bool, _&&_}
 use mathlib.Core.List.{List, _++_}
 use Prim.Native.Nat.{ℕ, _*_}
@@ -24,17 +24,21 @@ heads-of b = initial-states (b .names) (b .rules)
 abbrev pub moves-of : Book → List ℕ
 moves-of b = numbers (transitions (b .names) (b .rules))
 
--- causes 9, 10 and 11, in this order, where tables of so many numbers are lent
-unfoldable pub fitting : (heads moves : ℕ) → Book → Result Book
-fitting heads moves b =
-    demand (leb (states-of b) 2048) 9 0
-    (demand (leb (count-of b) 5120) 10 0
-    (demand (leb (b .names) heads && leb (3 * count-of b) moves) 11 0
-    (ok b)))
+-- causes 9 and 10, in this order: the tables keep the limits
+unfoldable pub fitting : Book → Result Book
+fitting b = demand (leb (states-of b) 2048) 9 0 (demand (leb (count-of b) 5120) 10 0 (ok b))
+
+-- causes 1 to 10: the accepted book (document 01's word) that the bytes are
+abbrev pub accepted : List ℕ → Result Book
+accepted s = and-then (ordered s) fitting
+
+-- cause 11, where tables of so many numbers are lent
+abbrev pub lent : (heads moves : ℕ) → Book → Result Book
+lent heads moves b = demand (leb (b .names) heads && leb (3 * count-of b) moves) 11 0 (ok b)
 
 -- causes 1 to 11
 unfoldable pub built : List ℕ → (heads moves : ℕ) → Result Book
-built s heads moves = and-then (ordered s) (fitting heads moves)
+built s heads moves = and-then (accepted s) (lent heads moves)
 
 -- new numbers over the front of old ones
 abbrev pub over : List ℕ → List ℕ → List ℕ

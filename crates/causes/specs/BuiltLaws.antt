@@ -1,5 +1,6 @@
--- What each test of causes 9 to 11 settles, for a book with a regular order, and what an accepted book has passed.
-use mathlib.Core.Bool.{Bool, true, false, _&&_, and-false}
+-- What each test of causes 9 to 11 settles, what an accepted book has passed, and what the lent tables decide: an accepted book is built where they
+-- are long enough, and one that is not accepted is refused alike whatever is lent.
+use mathlib.Core.Bool.{true, false, _&&_}
 use mathlib.Core.List.{List}
 use mathlib.Core.Path.{_≡_, refl, ap, _∙_, subst}
 use Prim.Native.Nat.{ℕ, _*_, _<_, _≤_}
@@ -15,98 +16,103 @@ use Rattle.format.specs.ReadLaws.{read-few-names}
 use Rattle.causes.specs.Ordered
 use Rattle.causes.specs.Ordered.{ordered}
 use Rattle.causes.specs.GatherLaws.{ordered-read}
-use Rattle.causes.specs.Built.{states-of, count-of, fitting, built}
+use Rattle.causes.specs.Built.{states-of, count-of, fitting, accepted, lent, built}
 
-module _ (s : List ℕ) (heads moves : ℕ) where
-  pub built-refused : (c v : ℕ) → ordered s ≡ refused c v → built s heads moves ≡ refused c v
-  unfolding built
-  built-refused c v h = rw h refl
+-- causes 9 and 10, for a book with a regular order
+module _ (s : List ℕ) where
+  pub accepted-refused : (c v : ℕ) → ordered s ≡ refused c v → accepted s ≡ refused c v
+  accepted-refused c v h = rw h refl
 
   module _ (b : Book) (o : ordered s ≡ ok b) where
-    pub built-states : 2048 < states-of b → built s heads moves ≡ refused 9 0
-    unfolding built fitting
-    built-states h = rw (o, lt-leb (states-of b) 2048 h) refl
+    pub accepted-states : 2048 < states-of b → accepted s ≡ refused 9 0
+    unfolding fitting
+    accepted-states h = rw (o, lt-leb (states-of b) 2048 h) refl
 
     module _ (few : states-of b ≤ 2048) where
-      pub built-count : 5120 < count-of b → built s heads moves ≡ refused 10 0
-      unfolding built fitting
-      built-count h = rw (o, le-leb (states-of b) 2048 few, lt-leb (count-of b) 5120 h) refl
+      pub accepted-count : 5120 < count-of b → accepted s ≡ refused 10 0
+      unfolding fitting
+      accepted-count h = rw (o, le-leb (states-of b) 2048 few, lt-leb (count-of b) 5120 h) refl
 
-      module _ (less : count-of b ≤ 5120) where
-        pub built-heads : heads < b .names → built s heads moves ≡ refused 11 0
-        unfolding built fitting
-        built-heads h = rw (o, le-leb (states-of b) 2048 few, le-leb (count-of b) 5120 less, lt-leb (b .names) heads h) refl
-
-        pub built-moves : moves < 3 * count-of b → built s heads moves ≡ refused 11 0
-        unfolding built fitting
-        built-moves h =
-            rw (o, le-leb (states-of b) 2048 few, le-leb (count-of b) 5120 less, lt-leb (3 * count-of b) moves h, and-false (leb (b .names) heads)) refl
-
-        pub built-ok : b .names ≤ heads → 3 * count-of b ≤ moves → built s heads moves ≡ ok b
-        unfolding built fitting
-        built-ok h k =
-            rw (o, le-leb (states-of b) 2048 few, le-leb (count-of b) 5120 less, le-leb (b .names) heads h, le-leb (3 * count-of b) moves k) refl
+      pub accepted-ok : count-of b ≤ 5120 → accepted s ≡ ok b
+      unfolding fitting
+      accepted-ok h = rw (o, le-leb (states-of b) 2048 few, le-leb (count-of b) 5120 h) refl
 
 -- what an accepted book has passed
-pub record Passed (s : List ℕ) (heads moves : ℕ) (b : Book) : Type 0 where
+pub record Passed (s : List ℕ) (b : Book) : Type 0 where
   pub ordered : Ordered.ordered s ≡ ok b
   pub states : states-of b ≤ 2048
   pub count : count-of b ≤ 5120
-  pub names : b .names ≤ heads
-  pub numbers : 3 * count-of b ≤ moves
 
-module _ (heads moves : ℕ) where
-  fitted-same : (d b : Book) → fitting heads moves d ≡ ok b → d ≡ b
-  unfolding fitting
-  fitted-same d b h =
-      ok-injective d b
-      (demand-rest (leb (d .names) heads && leb (3 * count-of d) moves) 11 0 _ b
-      (demand-rest (leb (count-of d) 5120) 10 0 _ b
-      (demand-rest (leb (states-of d) 2048) 9 0 _ b h)))
+fitting-same : (d b : Book) → fitting d ≡ ok b → d ≡ b
+unfolding fitting
+fitting-same d b h =
+    ok-injective d b (demand-rest (leb (count-of d) 5120) 10 0 _ b (demand-rest (leb (states-of d) 2048) 9 0 _ b h))
 
-  passed : (s : List ℕ) (b : Book) → ordered s ≡ ok b → fitting heads moves b ≡ ok b → Passed s heads moves b
-  unfolding fitting
-  passed s b o h =
-      let second = demand-rest (leb (states-of b) 2048) 9 0 _ b h in
-      let third = demand-rest (leb (count-of b) 5120) 10 0 _ b second in
-      let lent = demand-test (leb (b .names) heads && leb (3 * count-of b) moves) 11 0 _ b third in
-      record {
-        ordered = o;
-        states = leb-true (states-of b) 2048 (demand-test (leb (states-of b) 2048) 9 0 _ b h);
-        count = leb-true (count-of b) 5120 (demand-test (leb (count-of b) 5120) 10 0 _ b second);
-        names = leb-true (b .names) heads (and-left (leb (b .names) heads) (leb (3 * count-of b) moves) lent);
-        numbers = leb-true (3 * count-of b) moves (and-right (leb (b .names) heads) (leb (3 * count-of b) moves) lent);
-      }
+passed : (s : List ℕ) (b : Book) → ordered s ≡ ok b → fitting b ≡ ok b → Passed s b
+unfolding fitting
+passed s b o h =
+    record {
+      ordered = o;
+      states = leb-true (states-of b) 2048 (demand-test (leb (states-of b) 2048) 9 0 _ b h);
+      count = leb-true (count-of b) 5120 (demand-test (leb (count-of b) 5120) 10 0 _ b (demand-rest (leb (states-of b) 2048) 9 0 _ b h));
+    }
 
-  pub built-passed : (s : List ℕ) (b : Book) → built s heads moves ≡ ok b → Passed s heads moves b
+pub accepted-passed : (s : List ℕ) (b : Book) → accepted s ≡ ok b → Passed s b
+accepted-passed s b e = by-result (ordered s) refl e
+  where
+    by-result : (r : Result Book) → ordered s ≡ r → and-then r fitting ≡ ok b → Passed s b
+    by-result (refused c v) f g = absurd (refused-ok c v b g)
+    by-result (ok d) f g =
+        let same : d ≡ b = fitting-same d b g in
+        passed s b (f ∙ ap ok same) (subst (λ (d : Book). fitting d ≡ ok b) same g)
+
+-- cause 11, where tables of so many numbers are lent
+module _ (s : List ℕ) (heads moves : ℕ) where
+  -- a book that is not accepted is refused by the same cause with the same value, whatever is lent
+  pub built-refused : (c v : ℕ) → accepted s ≡ refused c v → built s heads moves ≡ refused c v
   unfolding built
-  built-passed s b e = by-result (ordered s) refl e
-    where
-      by-result : (r : Result Book) → ordered s ≡ r → and-then r (fitting heads moves) ≡ ok b → Passed s heads moves b
-      by-result (refused c v) f g = absurd (refused-ok c v b g)
-      by-result (ok d) f g =
-          let same : d ≡ b = fitted-same d b g in
-          passed s b (f ∙ ap ok same) (subst (λ (d : Book). fitting heads moves d ≡ ok b) same g)
+  built-refused c v h = rw h refl
+
+  module _ (b : Book) where
+    pub built-short : accepted s ≡ ok b → (leb (b .names) heads && leb (3 * count-of b) moves) ≡ false → built s heads moves ≡ refused 11 0
+    unfolding built
+    built-short a h = rw (a, h) refl
+
+    -- an accepted book is built where the lent tables are long enough
+    pub accepted-built : accepted s ≡ ok b → b .names ≤ heads → 3 * count-of b ≤ moves → built s heads moves ≡ ok b
+    unfolding built
+    accepted-built a h k = rw (a, le-leb (b .names) heads h, le-leb (3 * count-of b) moves k) refl
+
+    -- a book that is built is accepted, and the lent tables are long enough for it
+    module _ (e : built s heads moves ≡ ok b) where
+      both : (accepted s ≡ ok b) × ((leb (b .names) heads && leb (3 * count-of b) moves) ≡ true)
+      unfolding built
+      both = by-result (accepted s) refl e
+        where
+          by-result : (r : Result Book) → accepted s ≡ r → and-then r (lent heads moves) ≡ ok b
+              → (accepted s ≡ ok b) × ((leb (b .names) heads && leb (3 * count-of b) moves) ≡ true)
+          by-result (refused c v) f g = absurd (refused-ok c v b g)
+          by-result (ok d) f g =
+              let same : d ≡ b = ok-injective d b (demand-rest (leb (d .names) heads && leb (3 * count-of d) moves) 11 0 _ b g) in
+              (f ∙ ap ok same, rw same at (demand-test (leb (d .names) heads && leb (3 * count-of d) moves) 11 0 _ b g))
+
+      pub built-accepted : accepted s ≡ ok b
+      built-accepted = both .0
+
+      pub enough-heads : b .names ≤ heads
+      enough-heads = leb-true (b .names) heads (and-left (leb (b .names) heads) (leb (3 * count-of b) moves) (both .1))
+
+      pub enough-moves : 3 * count-of b ≤ moves
+      enough-moves = leb-true (3 * count-of b) moves (and-right (leb (b .names) heads) (leb (3 * count-of b) moves) (both .1))
 
 -- no more than 64 heads and 15,360 moves are needed: tables lent so long serve as longer ones do
-module _ (heads moves heads′ moves′ : ℕ) (f : (n : ℕ) → n ≤ 64 → leb n heads ≡ leb n heads′)
-    (g : (n : ℕ) → n ≤ 15360 → leb n moves ≡ leb n moves′) where
-  fitting-enough : (b : Book) → b .names ≤ 64 → fitting heads moves b ≡ fitting heads′ moves′ b
-  unfolding fitting
-  fitting-enough b few = ap (demand (leb (states-of b) 2048) 9 0) (by-count (leb (count-of b) 5120) refl)
-    where
-      by-count : (t : Bool) → leb (count-of b) 5120 ≡ t
-          → demand t 10 0 (demand (leb (b .names) heads && leb (3 * count-of b) moves) 11 0 (ok b))
-          ≡ demand t 10 0 (demand (leb (b .names) heads′ && leb (3 * count-of b) moves′) 11 0 (ok b))
-      by-count false e = refl
-      by-count true e =
-          let l : count-of b ≤ 5120 = leb-true (count-of b) 5120 e in
-          rw (f (b .names) few, g (3 * count-of b) (omega arith)) refl
-
-  pub built-enough : (s : List ℕ) → built s heads moves ≡ built s heads′ moves′
-  unfolding built
-  built-enough s = by-result (ordered s) refl
-    where
-      by-result : (r : Result Book) → ordered s ≡ r → and-then r (fitting heads moves) ≡ and-then r (fitting heads′ moves′)
-      by-result (refused c v) e = refl
-      by-result (ok b) e = fitting-enough b (read-few-names s b (ordered-read s b e))
+pub built-enough : (heads moves heads′ moves′ : ℕ) → ((n : ℕ) → n ≤ 64 → leb n heads ≡ leb n heads′)
+    → ((n : ℕ) → n ≤ 15360 → leb n moves ≡ leb n moves′) → (s : List ℕ) → built s heads moves ≡ built s heads′ moves′
+unfolding built
+built-enough heads moves heads′ moves′ f g s = by-result (accepted s) refl
+  where
+    by-result : (r : Result Book) → accepted s ≡ r → and-then r (lent heads moves) ≡ and-then r (lent heads′ moves′)
+    by-result (refused c v) e = refl
+    by-result (ok b) e =
+        let p = accepted-passed s b e in
+        rw (f (b .names) (read-few-names s b (ordered-read s b (p .ordered))), g (3 * count-of b) (omega (arith, p .count))) refl
