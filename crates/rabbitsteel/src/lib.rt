@@ -13,7 +13,7 @@ use decoder::Verdict;
 use deriver::Reply;
 use refusals::Refusal;
 
-// Causes 1 to 7. Accepted: how many names and how many rules the book has. Refused: the value beside the cause, and 0.
+// Causes 1 to 7. Passed: how many names and how many rules the book has. Refused: the value beside the cause, and 0.
 #[no_mangle]
 pub extern "C" fn rabbitsteel_read(book: &[u8], first: &mut u64, second: &mut u64) -> u64
     ensures { λ r. ⌜ Tells (map-result book-counts (read (now (book .entry)))) r (now (first .exit)) (now (second .exit)) ⌝ }
@@ -21,7 +21,7 @@ pub extern "C" fn rabbitsteel_read(book: &[u8], first: &mut u64, second: &mut u6
     tell(reader::read(book), first, second)
 }
 
-// Causes 1 to 8. Accepted: how many names and how many rules the book has. Refused: the value beside the cause, and 0.
+// Causes 1 to 8. Passed: how many names and how many rules the book has. Refused: the value beside the cause, and 0.
 #[no_mangle]
 pub extern "C" fn rabbitsteel_order(book: &[u8], first: &mut u64, second: &mut u64) -> u64
     ensures { λ r. ⌜ Tells (map-result book-counts (ordered (now (book .entry)))) r (now (first .exit)) (now (second .exit)) ⌝ }
@@ -57,7 +57,7 @@ fn refuse(refusal: Refusal, value: &mut u64) -> u64
     refusals::cause(refusal) as u64
 }
 
-// Causes 1 to 11, and the tables. Accepted: how many states and how many transitions they have. Refused: the value beside the cause, and 0; heads
+// Causes 1 to 11, and the tables. Built: how many states and how many transitions they have. Refused: the value beside the cause, and 0; heads
 // and moves are left as they were.
 #[no_mangle]
 pub extern "C" fn rabbitsteel_build(
