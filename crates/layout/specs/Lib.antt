@@ -15,3 +15,6 @@ pub mod Filling
 pub mod FillingLaws
 pub mod IndexLaws
 pub mod Sizes
+pub mod RoleSize
+pub mod FragmentSize
+pub mod RoleSizeLaws

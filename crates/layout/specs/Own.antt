@@ -100,26 +100,32 @@ facing-transitive r ρ ss = has-transitive-cons (facing r ρ) ss ∙ ap (λ (t :
 abbrev pub Apart-rules : List Rule → Type 0
 Apart-rules ρs = (ρ : Rule) → List·Memᴰ ρ ρs → AllApart (ρ .right) (shape ρ)
 
--- form 4 is there for a role and for its inverse alike
-transitive-inverse : (ρs : List Rule) (r : ℕ) → Apart-rules ρs → has-transitive (own-shapes ρs (inv r)) ≡ has-transitive (own-shapes ρs r)
+-- what rules add to a list of shapes alike for a role and for its inverse comes out alike for both
+pub own-inverse : {A : Type 0} (f : List Shape → A) (added : Shape → A → A)
+    → ((r : ℕ) (ρ : Rule) (ss : List Shape) → f (facing r ρ ∷ ss) ≡ added (shape ρ) (f ss))
+    → (ρs : List Rule) (r : ℕ) → Apart-rules ρs → f (own-shapes ρs (inv r)) ≡ f (own-shapes ρs r)
 unfolding rules-of
-transitive-inverse [] r a = refl
-transitive-inverse (ρ ∷ ρs) r a = by-name (eq-or-ne (name (ρ .right)) (name r)) (transitive-inverse ρs r (λ σ m. a σ (List·Memᴰ·tail m)))
+own-inverse f added faces [] r a = refl
+own-inverse f added faces (ρ ∷ ρs) r a = by-name (eq-or-ne (name (ρ .right)) (name r)) (own-inverse f added faces ρs r (λ σ m. a σ (List·Memᴰ·tail m)))
   where
-    Same : Type 0
-    Same = has-transitive (own-shapes ρs (inv r)) ≡ has-transitive (own-shapes ρs r)
+    Same : List Rule → Type 0
+    Same σs = f (own-shapes σs (inv r)) ≡ f (own-shapes σs r)
 
-    by-name : (name (ρ .right) ≡ name r) ⊎ (name (ρ .right) ≡ name r → ⊥) → Same → has-transitive (own-shapes (ρ ∷ ρs) (inv r)) ≡ has-transitive (own-shapes (ρ ∷ ρs) r)
+    by-name : (name (ρ .right) ≡ name r) ⊎ (name (ρ .right) ≡ name r → ⊥) → Same ρs → Same (ρ ∷ ρs)
     by-name (inl e) h =
         rw (
           own-same ρ ρs (inv r) (e ∙ sym (name-inv r)) (a ρ (List·Memᴰ·head refl)),
           own-same ρ ρs r e (a ρ (List·Memᴰ·head refl)),
-          facing-transitive (inv r) ρ (own-shapes ρs (inv r)),
-          facing-transitive r ρ (own-shapes ρs r),
+          faces (inv r) ρ (own-shapes ρs (inv r)),
+          faces r ρ (own-shapes ρs r),
           h,
         )
         refl
     by-name (inr e) h = rw (own-other ρ ρs (inv r) (λ q. e (q ∙ name-inv r)), own-other ρ ρs r e) h
+
+-- form 4 is there for a role and for its inverse alike
+transitive-inverse : (ρs : List Rule) (r : ℕ) → Apart-rules ρs → has-transitive (own-shapes ρs (inv r)) ≡ has-transitive (own-shapes ρs r)
+transitive-inverse = own-inverse has-transitive (λ s t. is-transitive s || t) facing-transitive
 
 has-transitive-append : (ss ts : List Shape) → has-transitive (ss ++ ts) ≡ (has-transitive ss || has-transitive ts)
 unfolding has-transitive
