@@ -41,6 +41,10 @@ abbrev pub head : List ℕ → ℕ → ℕ
 head heads r = getD heads (name r) 0
 
 module _ (heads moves : List ℕ) (r : ℕ) (w : Chain) where
+  -- the search is exhaustive
+  abbrev pub all-found : Bool
+  all-found = exhaustive (transitions-in moves) (head heads r + 1) (asked r w)
+
   -- the answer by the search
   unfoldable pub found : Result Bool
   found =
@@ -49,4 +53,4 @@ module _ (heads moves : List ℕ) (r : ℕ) (w : Chain) where
 
   -- the search is exhaustive and gives this answer
   unfoldable pub answers : Result Bool → Bool
-  answers a = exhaustive (transitions-in moves) (head heads r + 1) (asked r w) && same-answer found a
+  answers a = all-found && same-answer found a

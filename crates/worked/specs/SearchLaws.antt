@@ -19,7 +19,7 @@ use Rattle.queries.specs.Query.{transitions-in, query, asked, Answered}
 use Rattle.queries.specs.Query.Answered.{refuses, yes, no}
 use Rattle.automata.specs.Every.{Every, every-nil, every-cons, every-append, every-if}
 use Rattle.worked.specs.Tests.{all-every, among, among-member, member-among, same-answer, same-answer-sound}
-use Rattle.worked.specs.Search.{predecessors, closure, closed, starts, exhaustive, head, found, answers}
+use Rattle.worked.specs.Search.{predecessors, closure, closed, starts, exhaustive, head, all-found, found, answers}
 
 module _ (a : ℕ) (qs : List ℕ) where
   -- what holds at the start of each transition with the label a into the states holds of their predecessors
@@ -102,10 +102,7 @@ module _ (heads moves : List ℕ) (r : ℕ) (w : Chain) where
   abbrev ms : List Transition
   ms = transitions-in moves
 
-  abbrev all-found : Bool
-  all-found = exhaustive ms (head heads r + 1) (asked r w)
-
-  found-answered : all-found ≡ true → Answered heads moves r w (found heads moves r w)
+  pub found-answered : all-found heads moves r w ≡ true → Answered heads moves r w (found heads moves r w)
   unfolding found
   found-answered h = by-result (query heads moves r w) refl (among (starts ms (head heads r + 1) (asked r w)) (head heads r)) refl
     where
@@ -120,5 +117,5 @@ module _ (heads moves : List ℕ) (r : ℕ) (w : Chain) where
   unfolding answers
   answers-answered a h =
       let same : Bool = same-answer (found heads moves r w) a in
-      let e : found heads moves r w ≡ a = same-answer-sound (found heads moves r w) a (and-right all-found same h) in
-      subst (Answered heads moves r w) e (found-answered (and-left all-found same h))
+      let e : found heads moves r w ≡ a = same-answer-sound (found heads moves r w) a (and-right (all-found heads moves r w) same h) in
+      subst (Answered heads moves r w) e (found-answered (and-left (all-found heads moves r w) same h))
