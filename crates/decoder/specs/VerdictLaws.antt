@@ -6,9 +6,10 @@ use Prim.Native.Nat.{ℕ, _<_}
 use native.Mathlib.Omega.{arith}
 use lib.Dec.{ltb}
 use Rattle.roles.specs.Rule.{Book}
+use Rattle.words.specs.Word.{word}
 use Rattle.format.specs.Result.{Result, and-then, map-result}
 use Rattle.format.specs.Result.Result.{refused, ok}
-use Rattle.format.specs.Format.{word, decode, distinct, read}
+use Rattle.format.specs.Format.{decode, distinct, read}
 use Rattle.format.specs.Place.{has-rule, whole-at, rule-place, first-rules}
 use Rattle.format.specs.DecodeLaws.{Decoded, decoded}
 use Rattle.decoder.specs.declared.verdict.Header.{Header}

@@ -2,11 +2,12 @@
 ghost use mathlib.Core.List.{[], _∷_};
 ghost use mathlib.Core.Path.{_≡_};
 ghost use Prim.Native.Nat.{_+_, _<_, _≤_};
+ghost use lib.Dec.{leb};
 ghost use lib.ListN.{length, take, drop};
 ghost use Rattle.roles.specs.Role.{same-chain};
 ghost use Rattle.format.specs.Result.{map-result};
-ghost use Rattle.format.specs.Format.{rules-from, named, size-fits, counts-fit};
-ghost use Rattle.format.specs.Format.{word as word-of, decode as decode-of};
+ghost use Rattle.format.specs.Format.{rules-from, named, size-fits, version-fits, counts-fit};
+ghost use Rattle.format.specs.Format.{decode as decode-of};
 ghost use Rattle.refusals.specs.Check.{check};
 ghost use Rattle.decoder.specs.Verdict.{header-of, says};
 ghost use Rattle.cursor.specs.Cursor.{entry-rule};
@@ -20,6 +21,7 @@ use refusals::Check;
 use refusals::Refusal;
 pub use verdict::Header;
 pub use verdict::Verdict;
+use words::word;
 
 // Causes 1 to 6, in one pass.
 pub fn decode(book: &[u8]) -> Verdict
@@ -31,9 +33,9 @@ pub fn decode(book: &[u8]) -> Verdict
     let Check::Passed = begins_with(book, b"RLB") else {
         return Verdict::Refused(Refusal::Mark);
     };
-    if word(book, 3) != 1 {
+    let Check::Passed = versioned(book) else {
         return Verdict::Refused(Refusal::Version);
-    }
+    };
     let header = Header {
         names: book[5] as usize,
         rules: word(book, 6),
@@ -63,9 +65,9 @@ fn decode_rules(book: &[u8], header: Header) -> Verdict
         cursor = next;
         number += 1;
     }
-    if cursor.at < book.len() {
+    let Check::Passed = ended(book, cursor) else {
         return Verdict::Refused(Refusal::Malformed(rules));
-    }
+    };
     Verdict::WellFormed(header)
 }
 
@@ -97,12 +99,14 @@ fn begins_with(book: &[u8], mark: &[u8]) -> Check
     Check::Passed
 }
 
-// 16 bits, low byte first.
-fn word(book: &[u8], at: usize) -> usize
-    requires { ⌜ at + 1 < length (now book) ⌝ }
-    ensures { λ r. ⌜ r ≡ word-of (now (book .entry)) at ⌝ }
+// Cause 3: version 1.
+fn versioned(book: &[u8]) -> Check
+    ensures { λ r. ⌜ r ≡ check (version-fits (now (book .entry))) ⌝ }
 {
-    book[at] as usize + 256 * (book[at + 1] as usize)
+    if word(book, 3) != 1 {
+        return Check::Failed;
+    }
+    Check::Passed
 }
 
 // Cause 4: 1 to 64 names and at most 256 rules.
@@ -141,6 +145,16 @@ fn declared(book: &[u8], rule: Entry, names: usize) -> Check
             return Check::Failed;
         }
         i += 1;
+    }
+    Check::Passed
+}
+
+// Passed where no bytes stand after the last rule, which ends at the cursor.
+fn ended(book: &[u8], cursor: Cursor) -> Check
+    ensures { λ r. ⌜ r ≡ check (leb (length (now (book .entry))) (cursor .at)) ⌝ }
+{
+    if cursor.at < book.len() {
+        return Check::Failed;
     }
     Check::Passed
 }

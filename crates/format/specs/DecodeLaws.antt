@@ -11,11 +11,12 @@ use lib.Dec.{leb, eqb}
 use lib.ListN.{length, getD, take, drop, List·getD-eq-default}
 use Rattle.roles.specs.Tests.{and-left, and-right}
 use Rattle.roles.specs.Rule.{Rule, Book}
+use Rattle.words.specs.Word.{word}
 use Rattle.format.specs.Result.{Result, demand}
 use Rattle.format.specs.Result.Result.{refused, ok}
 use Rattle.format.specs.ResultLaws.{demand-test, demand-rest}
 use Rattle.format.specs.Format
-use Rattle.format.specs.Format.{word, rules-from, named, size-fits, mark-fits, counts-fit, decode}
+use Rattle.format.specs.Format.{rules-from, named, size-fits, mark-fits, version-fits, counts-fit, decode}
 use Rattle.format.specs.Place.{rule-at, whole-at, rule-place, first-rules, has-rule, left-side, left-part}
 use Rattle.format.specs.FormatLaws.{Laid, laid, length-first-rules, getD-first-rules}
 
@@ -31,11 +32,11 @@ module _ (s : List ℕ) where
     decode-mark h = rw (size, h) refl
 
     module _ (mark : mark-fits s ≡ true) where
-      pub decode-version : eqb (word s 3) 1 ≡ false → decode s ≡ refused 3 0
+      pub decode-version : version-fits s ≡ false → decode s ≡ refused 3 0
       unfolding decode
       decode-version h = rw (size, mark, h) refl
 
-      module _ (version : eqb (word s 3) 1 ≡ true) where
+      module _ (version : version-fits s ≡ true) where
         pub decode-counts : counts-fit (getD s 5 0) (word s 6) ≡ false → decode s ≡ refused 4 0
         unfolding decode
         decode-counts h = rw (size, mark, version, h) refl
@@ -110,7 +111,7 @@ decoded s b h =
     from-counts = demand (counts-fit n (word s 6)) 4 0 from-rules
 
     from-version : Result Book
-    from-version = demand (eqb (word s 3) 1) 3 0 from-counts
+    from-version = demand (version-fits s) 3 0 from-counts
 
     from-mark : Result Book
     from-mark = demand (mark-fits s) 2 0 from-version
@@ -120,7 +121,7 @@ decoded s b h =
 
     rest : from-counts ≡ ok b
     rest =
-        demand-rest (eqb (word s 3) 1) 3 0 from-counts b
+        demand-rest (version-fits s) 3 0 from-counts b
         (demand-rest (mark-fits s) 2 0 from-version b (demand-rest (size-fits s) 1 0 from-mark b h))
 
     counts : Counted n (word s 6)

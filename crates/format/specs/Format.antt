@@ -6,16 +6,13 @@ use lib.Dec.{leb, ltb, eqb}
 use lib.ListN.{length, getD, take, drop}
 use Rattle.roles.specs.Role.{Chain, same-chain}
 use Rattle.roles.specs.Rule.{Rule, Book, inverse, same-rule}
+use Rattle.words.specs.Word.{word}
 use Rattle.format.specs.Result.{Result, demand, and-then}
 use Rattle.format.specs.Result.Result.{refused, ok}
 
 -- the mark RLB
 abbrev pub mark : List ℕ
 mark = 0x52 ∷ 0x4C ∷ 0x42 ∷ []
-
--- 16 bits, low byte first
-unfoldable pub word : List ℕ → ℕ → ℕ
-word s at = getD s at 0 + 256 * getD s (at + 1) 0
 
 -- what stands at the front of some bytes: a whole rule and the bytes after it, or no rule
 pub data Front : Type 0 where
@@ -47,12 +44,15 @@ rules-from n read zero [] = ok (record { names = n; rules = read })
 rules-from n read zero (b ∷ s) = refused 5 (length read)
 rules-from n read (suc left) s = one-rule n (length read) (λ ρ rest. rules-from n (read ++ (ρ ∷ [])) left rest) (front s)
 
--- the tests of causes 1, 2 and 4
+-- the tests of causes 1 to 4
 abbrev pub size-fits : List ℕ → Bool
 size-fits s = leb 8 (length s) && leb (length s) 2568
 
 abbrev pub mark-fits : List ℕ → Bool
 mark-fits s = same-chain (take 3 s) mark
+
+abbrev pub version-fits : List ℕ → Bool
+version-fits s = eqb (word s 3) 1
 
 abbrev pub counts-fit : (names rules : ℕ) → Bool
 counts-fit n k = leb 1 n && leb n 64 && leb k 256
@@ -62,7 +62,7 @@ unfoldable pub decode : List ℕ → Result Book
 decode s =
     demand (size-fits s) 1 0
     (demand (mark-fits s) 2 0
-    (demand (eqb (word s 3) 1) 3 0
+    (demand (version-fits s) 3 0
     (demand (counts-fit (getD s 5 0) (word s 6)) 4 0
     (rules-from (getD s 5 0) [] (word s 6) (drop 8 s)))))
 

@@ -13,10 +13,11 @@ use Rattle.roles.specs.Role.{Chain, name}
 use Rattle.roles.specs.PartLaws.{part, getD-part, length-part}
 use Rattle.roles.specs.Named.{Named}
 use Rattle.roles.specs.Rule.{Rule, Book}
+use Rattle.words.specs.Word.{word}
 use Rattle.format.specs.Result.{Result, and-then}
 use Rattle.format.specs.Result.Result.{refused, ok}
 use Rattle.format.specs.ResultLaws.{refused-ok, ok-injective, demand-rest}
-use Rattle.format.specs.Format.{word, named, decode, repeats, distinct, read}
+use Rattle.format.specs.Format.{named, decode, repeats, distinct, read}
 use Rattle.format.specs.Place.{size-at, rule-at, whole-at, rule-place, first-rules}
 use Rattle.format.specs.FormatLaws.{Whole, whole-facts, getD-first-rules}
 use Rattle.format.specs.DecodeLaws.{Decoded, decoded}

@@ -1,11 +1,12 @@
 -- Questions that follow one another on an input: each a role byte, the number of its links, 16 bits, low byte first, and the links.
 use mathlib.Core.List.{List}
-use Prim.Native.Nat.{ℕ, _+_, _*_, _<_, _≤_}
-use lib.ListN.{length, getD}
+use Prim.Native.Nat.{ℕ, _+_, _<_, _≤_}
+use lib.ListN.{length}
+use Rattle.words.specs.Word.{word}
 
 -- how many links the question at the front of s says that it has
 abbrev pub links-of : List ℕ → ℕ
-links-of s = getD s 1 0 + 256 * getD s 2 0
+links-of s = word s 1
 
 -- the question at the front of s is whole, or not
 abbrev pub Whole : List ℕ → Type 0

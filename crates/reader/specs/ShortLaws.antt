@@ -9,9 +9,10 @@ use lib.ListN.{length, getD, take, drop}
 use Rattle.roles.specs.Role.{Chain, name, polarity, turn}
 use Rattle.roles.specs.PartLaws.{length-part}
 use Rattle.roles.specs.Rule.{Book}
+use Rattle.words.specs.Word.{word}
 use Rattle.format.specs.Result.{Result, map-result}
 use Rattle.format.specs.Result.Result.{refused, ok}
-use Rattle.format.specs.Format.{word, named, decode}
+use Rattle.format.specs.Format.{named, decode}
 use Rattle.format.specs.Place.{size-at, rule-at, whole-at, rule-place}
 use Rattle.format.specs.FormatLaws.{Whole, whole-facts}
 use Rattle.format.specs.DecodeLaws.{Decoded, decoded}

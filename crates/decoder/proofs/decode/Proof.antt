@@ -2,7 +2,6 @@
 use mathlib.Core.Path.{sym, ap, _∙_}
 use native.Mathlib.Omega.{arith}
 use borrow.Author.Needs.{needs}
-use borrow.Author.Tests.{eq-eqb, ne-eqb}
 use lib.ListN.{getD}
 use Rattle.decoder.specs.Verdict.{header-of}
 use Rattle.refusals.specs.Check.{check-passed, check-failed}
@@ -36,32 +35,10 @@ enum-told-4 : tie.Need-enum-told-4
 enum-told-4 c = search needs
 
 returns-2 : tie.Need-returns-2
-returns-2 c =
-    sym
-    (ap (map-result header-of)
-    (decode-mark _ (check-passed _ _ (c .before .before .before .before .before .before .sized .ensures) (c .before .before .before .before .enum-told .given .1)) (check-failed _ _ (c .before .before .begins-with .ensures) (c .enum-told4 .given .1))))
+returns-2 c = sym (ap (map-result header-of) (decode-mark _ (check-passed _ _ (c .before .before .before .before .before .before .sized .ensures) (c .before .before .before .before .enum-told .given .1)) (check-failed _ _ (c .before .before .begins-with .ensures) (c .enum-told4 .given .1))))
 
-word-requires : tie.Need-word-requires
-word-requires c κs = omega (arith, sized (c .before .before .before .before .before .before .before .before .args .book .now) (check-passed _ _ (c .before .before .before .before .before .before .sized .ensures) (c .before .before .before .before .enum-told .given .1)))
-
-returns-3 : tie.Need-returns-3
-returns-3 c =
-    sym
-    (ap (map-result header-of)
-    (decode-version _ (check-passed _ _ (c .before .before .before .before .before .before .before .before .sized .ensures) (c .before .before .before .before .before .before .enum-told .given .1)) (check-passed _ _ (c .before .before .before .before .begins-with .ensures) (c .before .before .enum-told3 .given .1))
-    (ne-eqb _ _ (λ e. c .if1 .taken (c .before .word .ensures ∙ e)))))
-
-shared-slice-read-t14 : tie.Need-shared-slice-read-t14
-shared-slice-read-t14 c = omega (arith, sized (c .before .before .before .before .before .before .before .before .before .before .before .args .book .now) (check-passed _ _ (c .before .before .before .before .before .before .before .before .before .sized .ensures) (c .before .before .before .before .before .before .before .enum-told .given .1)))
-
-cast-t10 : tie.Need-cast-t10
-cast-t10 c = omega (arith, c .shared-slice-known2 .given 5)
-
-word-requires-2 : tie.Need-word-requires-2
-word-requires-2 c κs = omega (arith, sized (c .before .before .before .before .before .before .before .before .before .before .before .args .book .now) (check-passed _ _ (c .before .before .before .before .before .before .before .before .before .sized .ensures) (c .before .before .before .before .before .before .before .enum-told .given .1)))
-
-ranged-requires : tie.Need-ranged-requires
-ranged-requires c κs = search needs
+versioned-requires : tie.Need-versioned-requires
+versioned-requires c κs = search needs
 
 enum-told-5 : tie.Need-enum-told-5
 enum-told-5 c = search needs
@@ -69,26 +46,45 @@ enum-told-5 c = search needs
 enum-told-6 : tie.Need-enum-told-6
 enum-told-6 c = search needs
 
+returns-3 : tie.Need-returns-3
+returns-3 c = sym (ap (map-result header-of) (decode-version _ (check-passed _ _ (c .before .before .before .before .before .before .before .before .before .sized .ensures) (c .before .before .before .before .before .before .before .enum-told .given .1)) (check-passed _ _ (c .before .before .before .before .before .begins-with .ensures) (c .before .before .before .enum-told3 .given .1)) (check-failed _ _ (c .before .before .versioned .ensures) (c .enum-told6 .given .1))))
+
+shared-slice-read-t13 : tie.Need-shared-slice-read-t13
+shared-slice-read-t13 c = omega (arith, sized (c .before .before .before .before .before .before .before .before .before .before .before .before .args .book .now) (check-passed _ _ (c .before .before .before .before .before .before .before .before .before .before .sized .ensures) (c .before .before .before .before .before .before .before .before .enum-told .given .1)))
+
+cast-t14 : tie.Need-cast-t14
+cast-t14 c = omega (arith, c .shared-slice-known2 .given 5)
+
+word-requires : tie.Need-word-requires
+word-requires c κs = search needs
+
+ranged-requires : tie.Need-ranged-requires
+ranged-requires c κs = search needs
+
+enum-told-7 : tie.Need-enum-told-7
+enum-told-7 c = search needs
+
+enum-told-8 : tie.Need-enum-told-8
+enum-told-8 c = search needs
+
 returns-4 : tie.Need-returns-4
 returns-4 c =
     sym
     (ap (map-result header-of)
-    (decode-counts _ (check-passed _ _ (c .before .before .before .before .before .before .before .before .before .before .before .before .before .sized .ensures) (c .before .before .before .before .before .before .before .before .before .before .before .enum-told .given .1)) (check-passed _ _ (c .before .before .before .before .before .before .before .before .before .begins-with .ensures) (c .before .before .before .before .before .before .before .enum-told3 .given .1))
-    (eq-eqb _ _ (sym (c .before .before .before .before .before .before .word .ensures) ∙ c .before .before .before .before .before .if1 .left))
-    (rw (sym (c .before .before .before .word2 .ensures)) (check-failed _ _ (c .before .before .ranged .ensures) (c .enum-told6 .given .1)))))
+    (decode-counts _ (check-passed _ _ (c .before .before .before .before .before .before .before .before .before .before .before .before .before .before .sized .ensures) (c .before .before .before .before .before .before .before .before .before .before .before .before .enum-told .given .1)) (check-passed _ _ (c .before .before .before .before .before .before .before .before .before .before .begins-with .ensures) (c .before .before .before .before .before .before .before .before .enum-told3 .given .1)) (check-passed _ _ (c .before .before .before .before .before .before .before .versioned .ensures) (c .before .before .before .before .before .enum-told5 .given .1))
+    (rw (sym (c .before .before .before .word .ensures)) (check-failed _ _ (c .before .before .ranged .ensures) (c .enum-told8 .given .1)))))
 
 decode-rules-requires : tie.Need-decode-rules-requires
-decode-rules-requires c κs = counted (getD (c .before .before .before .before .before .before .before .before .before .before .before .before .before .before .before .args .book .now) 5 0) (c .before .before .before .word2 .result) (check-passed _ _ (c .before .before .ranged .ensures) (c .enum-told5 .given .1)) .names-most
+decode-rules-requires c κs = counted (getD (c .before .before .before .before .before .before .before .before .before .before .before .before .before .before .before .before .args .book .now) 5 0) (c .before .before .before .word .result) (check-passed _ _ (c .before .before .ranged .ensures) (c .enum-told7 .given .1)) .names-most
 
 returns-5 : tie.Need-returns-5
 returns-5 c =
     c .decode-rules .ensures
-    ∙ rw (c .before .before .before .before .word2 .ensures)
+    ∙ rw (c .before .before .before .before .word .ensures)
     (ap (map-result header-of)
     (sym
-    (decode-all _ (check-passed _ _ (c .before .before .before .before .before .before .before .before .before .before .before .before .before .before .sized .ensures) (c .before .before .before .before .before .before .before .before .before .before .before .before .enum-told .given .1)) (check-passed _ _ (c .before .before .before .before .before .before .before .before .before .before .begins-with .ensures) (c .before .before .before .before .before .before .before .before .enum-told3 .given .1))
-    (eq-eqb _ _ (sym (c .before .before .before .before .before .before .before .word .ensures) ∙ c .before .before .before .before .before .before .if1 .left))
-    (rw (sym (c .before .before .before .before .word2 .ensures)) (check-passed _ _ (c .before .before .before .ranged .ensures) (c .before .enum-told5 .given .1))))))
+    (decode-all _ (check-passed _ _ (c .before .before .before .before .before .before .before .before .before .before .before .before .before .before .before .sized .ensures) (c .before .before .before .before .before .before .before .before .before .before .before .before .before .enum-told .given .1)) (check-passed _ _ (c .before .before .before .before .before .before .before .before .before .before .before .begins-with .ensures) (c .before .before .before .before .before .before .before .before .before .enum-told3 .given .1)) (check-passed _ _ (c .before .before .before .before .before .before .before .before .versioned .ensures) (c .before .before .before .before .before .before .enum-told5 .given .1))
+    (rw (sym (c .before .before .before .before .word .ensures)) (check-passed _ _ (c .before .before .before .ranged .ensures) (c .before .enum-told7 .given .1))))))
 
 pub decode-spec : {M : Type 1} → statement M
 decode-spec =
@@ -103,14 +99,16 @@ decode-spec =
     enum-told-3
     enum-told-4
     returns-2
-    word-requires
-    returns-3
-    shared-slice-read-t14
-    cast-t10
-    word-requires-2
-    ranged-requires
+    versioned-requires
     enum-told-5
     enum-told-6
+    returns-3
+    shared-slice-read-t13
+    cast-t14
+    word-requires
+    ranged-requires
+    enum-told-7
+    enum-told-8
     returns-4
     decode-rules-requires
     returns-5)

@@ -3,6 +3,7 @@ use mathlib.Core.Path.{refl, _≡_, sym, ap, _∙_}
 use Prim.Native.Nat.{_≤_, _-_}
 use native.Mathlib.Omega.{arith}
 use borrow.Author.Needs.{needs}
+use borrow.Author.Tests.{leb-true, leb-false}
 use Rattle.cursor.specs.CursorLaws.{no-rule, at-rule, named-entry}
 use Rattle.decoder.specs.Verdict.{header-of}
 use Rattle.refusals.specs.Check.{check-passed, check-failed}
@@ -72,14 +73,23 @@ loop-again c =
       ),
     )
 
+ended-requires : tie.Need-ended-requires Inv-loop μ-loop
+ended-requires c κs = search needs
+
+enum-told-4 : tie.Need-enum-told-4 Inv-loop μ-loop
+enum-told-4 c = search needs
+
+enum-told-5 : tie.Need-enum-told-5 Inv-loop μ-loop
+enum-told-5 c = search needs
+
 returns-3 : tie.Need-returns-3 Inv-loop μ-loop
-returns-3 c = sym (ap (map-result header-of) (running-after _ _ _ _ _ (let e : c .before .before .before .loop .number ≡ c .before .before .before .before .before .before .args .header .rules = omega arith in e) (c .before .before .before .loop .inv .1 .0) (c .before .before .before .loop .inv .1 .1) (c .if1 .taken)))
+returns-3 c = sym (ap (map-result header-of) (running-after _ _ _ _ _ (let e : c .before .before .before .before .loop .number ≡ c .before .before .before .before .before .before .before .args .header .rules = omega arith in e) (c .before .before .before .before .loop .inv .1 .0) (c .before .before .before .before .loop .inv .1 .1) (leb-false _ _ (check-failed _ _ (c .before .before .ended .ensures) (c .enum-told5 .given .1)))))
 
 returns-4 : tie.Need-returns-4 Inv-loop μ-loop
 returns-4 c =
     sym
     (ap (map-result header-of)
-    (running-end _ _ _ _ _ (let e : c .before .before .before .loop .number ≡ c .before .before .before .before .before .before .args .header .rules = omega arith in e) (c .before .before .before .loop .inv .1 .0) (c .before .before .before .loop .inv .1 .1) (c .if1 .left))
+    (running-end _ _ _ _ _ (let e : c .before .before .before .before .loop .number ≡ c .before .before .before .before .before .before .before .args .header .rules = omega arith in e) (c .before .before .before .before .loop .inv .1 .0) (c .before .before .before .before .loop .inv .1 .1) (leb-true _ _ (check-passed _ _ (c .before .before .ended .ensures) (c .enum-told4 .given .1))))
     ∙ rw length-first-rules refl)
 
 pub decode-rules-spec : {M : Type 1} → statement M
@@ -101,5 +111,8 @@ decode-rules-spec =
     add-number
     loop-less
     loop-again
+    ended-requires
+    enum-told-4
+    enum-told-5
     returns-3
     returns-4)
