@@ -9,6 +9,9 @@ use Rattle.format.specs.Result.{Result}
 use Rattle.format.specs.Result.Result.{refused, ok}
 use Rattle.queries.specs.Query.{tables-fit, Answered}
 use Rattle.queries.specs.Input.{links-of, Whole, Broken}
+use Rattle.refusals.specs.Check.{check}
+use Rattle.refusals.specs.declared.check.Check.{Check}
+use Rattle.refusals.specs.declared.check.Check.the-variants.{Passed}
 use Rattle.simulation.specs.Transitions.{transition-count}
 use Rattle.simulation.specs.Index.{Indexed}
 use Rattle.answerer.specs.declared.batch.Batch.{Batch}
@@ -43,9 +46,9 @@ module _ (heads moves : List ℕ) where
     pub kept : drop answered answers′ ≡ drop answered answers
 
   -- tables that are known to fit, and are indexed, or not to fit
-  pub record Ready (fit : Bool) (index : List ℕ) : Type 0 where
-    pub judged : tables-fit heads moves ≡ fit
-    pub indexed : fit ≡ true → Indexed 2048 moves index (transition-count moves)
+  pub record Ready (fit : Check) (index : List ℕ) : Type 0 where
+    pub judged : fit ≡ check (tables-fit heads moves)
+    pub indexed : fit ≡ Passed → Indexed 2048 moves index (transition-count moves)
 
 -- how many bytes the whole question at the front of s takes, or 0 for none
 pub record Sized (s : List ℕ) (n : ℕ) : Type 0 where

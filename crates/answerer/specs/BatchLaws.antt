@@ -7,6 +7,8 @@ use native.Mathlib.Nat.{zero-add}
 use native.Mathlib.Omega.{arith}
 use lib.ListN.{length, getD, set, take, drop, length-set, length-drop}
 use lib.Seq.{getD-drop, drop-drop, take-suc-set, drop-set-lt}
+use Rattle.words.specs.Word.{word}
+use Rattle.words.specs.WordLaws.{word-drop}
 use Rattle.format.specs.Result.Result.{refused}
 use Rattle.queries.specs.Query.{query, Answered}
 use Rattle.queries.specs.Query.Answered.{refuses}
@@ -22,22 +24,21 @@ module _ (q : List ℕ) (at : ℕ) (h : at ≤ length q) where
   left : length (drop at q) ≡ length q - at
   left = length-drop at q
 
-  same-links : getD q (at + 1) 0 + 256 * getD q (at + 2) 0 ≡ links-of (drop at q)
-  same-links = ap₂ (λ (a b : ℕ). a + 256 * b) (sym (getD-drop at q 1 0)) (sym (getD-drop at q 2 0))
+  same-links : word q (at + 1) ≡ links-of (drop at q)
+  same-links = sym (word-drop at q 1)
 
   pub sized-short : length q - at < 3 → Sized (drop at q) 0
   sized-short l =
       let short : length (drop at q) < 3 = omega (arith, left, l) in
       record { some = λ z. absurd (z refl); none = λ e. omega arith }
 
-  pub sized-part : length q - at < 3 + (getD q (at + 1) 0 + 256 * getD q (at + 2) 0) → Sized (drop at q) 0
-  sized-part l = record { some = λ z. absurd (z refl); none = λ e. omega (arith, left, l, same-links) }
+  pub sized-part : 3 ≤ length q - at → length q - at - 3 < word q (at + 1) → Sized (drop at q) 0
+  sized-part m l = record { some = λ z. absurd (z refl); none = λ e. omega (arith, left, m, l, same-links) }
 
-  pub sized-whole : 3 + (getD q (at + 1) 0 + 256 * getD q (at + 2) 0) ≤ length q - at
-      → Sized (drop at q) (3 + (getD q (at + 1) 0 + 256 * getD q (at + 2) 0))
-  sized-whole l =
+  pub sized-whole : 3 ≤ length q - at → word q (at + 1) ≤ length q - at - 3 → Sized (drop at q) (3 + word q (at + 1))
+  sized-whole m l =
       record {
-        some = λ z. (ap (λ (n : ℕ). 3 + n) same-links, omega (arith, left, l, same-links));
+        some = λ z. (ap (λ (n : ℕ). 3 + n) same-links, omega (arith, left, m, l, same-links));
         none = λ e. absurd (let f : ⊥ = omega (arith, e) in f);
       }
 

@@ -1,16 +1,20 @@
 // Many questions put to the same tables, which are checked and indexed once. The questions follow one another as on the program's input: role byte,
 // number of links (16 bits, low byte first), links.
+ghost use mathlib.Core.Path.{_≡_};
 ghost use Prim.Native.Nat.{_+_, _≤_};
 ghost use lib.ListN.{length, drop};
 ghost use Rattle.queries.specs.Query.{Answered};
+ghost use Rattle.questions.specs.Question.{cause-of};
 ghost use Rattle.simulation.specs.States.{Unused};
 ghost use Rattle.answerer.specs.Batch.{told, Sized, Ready, Batches};
 use crate::index::fill_index;
 use crate::reading::run;
 use crate::states::renew;
+use questions::QueryRefusal;
 use questions::Question;
 use refusals::Check;
 use role_bytes::name;
+use words::word;
 
 // How many questions are answered, and how many bytes of the input they take.
 pub struct Batch {
@@ -26,23 +30,14 @@ pub fn ask_all(heads: &[u16], moves: &[u16], input: &[u8], answers: &mut [u8]) -
     let mut index = [0u16; 9216];
     let mut states = [0u16; 4096];
     let mut others = [0u16; 4096];
-    let Check::Passed = questions::tables_fit(heads, moves) else {
-        return answer_each(
-            heads,
-            moves,
-            false,
-            &index,
-            input,
-            answers,
-            &mut states,
-            &mut others,
-        );
-    };
-    fill_index(moves, 2048, &mut index);
+    let fit = questions::tables_fit(heads, moves);
+    if let Check::Passed = fit {
+        fill_index(moves, 2048, &mut index);
+    }
     answer_each(
         heads,
         moves,
-        true,
+        fit,
         &index,
         input,
         answers,
@@ -55,7 +50,7 @@ pub fn ask_all(heads: &[u16], moves: &[u16], input: &[u8], answers: &mut [u8]) -
 fn answer_each(
     heads: &[u16],
     moves: &[u16],
-    fit: bool,
+    fit: Check,
     index: &[u16],
     input: &[u8],
     answers: &mut [u8],
@@ -102,24 +97,23 @@ fn answer_each(
 fn whole(input: &[u8], at: usize) -> usize
     requires { ⌜ at ≤ length (now input) ⌝ }
     ensures { λ r. ⌜ Sized (drop at (now (input .entry))) r ⌝ }
-    ensures { λ r. ⌜ r ≤ 65538 ⌝ }
 {
     let left = input.len() - at;
     if left < 3 {
         return 0;
     }
-    let size = 3 + (input[at + 1] as usize + 256 * input[at + 2] as usize);
-    if left < size {
+    let links = word(input, at + 1);
+    if left - 3 < links {
         return 0;
     }
-    size
+    3 + links
 }
 
 // Answers one question with a byte.
 fn answer(
     heads: &[u16],
     moves: &[u16],
-    fit: bool,
+    fit: Check,
     index: &[u16],
     role: u8,
     chain: &[u8],
@@ -135,12 +129,12 @@ fn answer(
     ensures { λ _. ⌜ Unused 2048 (stamp + length (now (chain .entry)) + 1) (now (states .exit)) ⌝ }
     ensures { λ _. ⌜ Unused 2048 (stamp + length (now (chain .entry)) + 1) (now (others .exit)) ⌝ }
 {
-    if !fit {
-        return 12;
-    }
+    let Check::Passed = fit else {
+        return refusal_byte(QueryRefusal::Tables);
+    };
     let question = questions::check_for(heads.len() as u8, role, chain);
     match question {
-        Question::Refused(refusal) => questions::cause(refusal) as u8,
+        Question::Refused(refusal) => refusal_byte(refusal),
         Question::Fits => {
             let head = heads[name(role) as usize] as usize;
             if run(moves, index, 2048, role, chain, head, stamp, states, others) {
@@ -149,4 +143,11 @@ fn answer(
             0
         }
     }
+}
+
+// The byte that answers a refused question: the number of the cause.
+fn refusal_byte(refusal: QueryRefusal) -> u8
+    ensures { λ r. ⌜ r ≡ cause-of refusal ⌝ }
+{
+    questions::cause(refusal) as u8
 }

@@ -23,25 +23,25 @@ whole-requires : tie.Need-whole-requires Inv-loop μ-loop
 whole-requires c κs = c .before .loop .inv .0 .within
 
 add-chain : tie.Need-add-chain Inv-loop μ-loop
-add-chain c = omega (arith, whole-fits _ _ _ (c .before .before .before .loop .inv .0 .within) (c .before .whole .ensures .0) (c .if1 .left))
+add-chain c = omega (arith, whole-fits _ _ _ (c .before .before .before .loop .inv .0 .within) (c .before .whole .ensures) (c .if1 .left))
 
 add-chain-2 : tie.Need-add-chain-2 Inv-loop μ-loop
-add-chain-2 c = omega (arith, whole-fits _ _ _ (c .before .before .before .loop .inv .0 .within) (c .before .whole .ensures .0) (c .if1 .left))
+add-chain-2 c = omega (arith, whole-fits _ _ _ (c .before .before .before .loop .inv .0 .within) (c .before .whole .ensures) (c .if1 .left))
 
 sub-chain : tie.Need-sub-chain Inv-loop μ-loop
-sub-chain c = omega (arith, whole-fits _ _ _ (c .before .before .before .loop .inv .0 .within) (c .before .whole .ensures .0) (c .if1 .left))
+sub-chain c = omega (arith, whole-fits _ _ _ (c .before .before .before .loop .inv .0 .within) (c .before .whole .ensures) (c .if1 .left))
 
 part-chain-start : tie.Need-part-chain-start Inv-loop μ-loop
-part-chain-start c = omega (arith, whole-fits _ _ _ (c .before .before .before .loop .inv .0 .within) (c .before .whole .ensures .0) (c .if1 .left))
+part-chain-start c = omega (arith, whole-fits _ _ _ (c .before .before .before .loop .inv .0 .within) (c .before .whole .ensures) (c .if1 .left))
 
 part-chain-end : tie.Need-part-chain-end Inv-loop μ-loop
-part-chain-end c = omega (arith, whole-fits _ _ _ (c .before .before .before .loop .inv .0 .within) (c .before .whole .ensures .0) (c .if1 .left))
+part-chain-end c = omega (arith, whole-fits _ _ _ (c .before .before .before .loop .inv .0 .within) (c .before .whole .ensures) (c .if1 .left))
 
 renew-requires : tie.Need-renew-requires Inv-loop μ-loop
 renew-requires c κs = c .before .before .before .before .before .before .loop .inv .1
 
 shared-slice-read-answer : tie.Need-shared-slice-read-answer Inv-loop μ-loop
-shared-slice-read-answer c = omega (arith, whole-fits _ _ _ (c .before .before .before .before .before .before .before .before .before .before .before .before .loop .inv .0 .within) (c .before .before .before .before .before .before .before .before .before .before .whole .ensures .0) (c .before .before .before .before .before .before .before .before .before .if1 .left))
+shared-slice-read-answer c = omega (arith, whole-fits _ _ _ (c .before .before .before .before .before .before .before .before .before .before .before .before .loop .inv .0 .within) (c .before .before .before .before .before .before .before .before .before .before .whole .ensures) (c .before .before .before .before .before .before .before .before .before .if1 .left))
 
 answer-requires : tie.Need-answer-requires Inv-loop μ-loop
 answer-requires c κs = (c .before .before .before .before .before .before .before .before .before .before .before .before .before .before .before .before .before .before .before .before .before .before .pre .0, (c .before .before .before .before .before .before .before .renew .ensures .0, c .before .before .before .before .before .before .before .renew .ensures .1))
@@ -53,10 +53,10 @@ cast-stamp : tie.Need-cast-stamp Inv-loop μ-loop
 cast-stamp c = omega (arith, c .before .before .before .before .before .before .before .before .before .before .before .before .renew .ensures .0)
 
 add-stamp : tie.Need-add-stamp Inv-loop μ-loop
-add-stamp c = omega (arith, c .before .before .before .before .before .before .before .before .before .before .before .before .renew .ensures .0, c .before .before .before .before .before .before .before .before .before .before .before .before .before .before .before .before .before .whole .ensures .1)
+add-stamp c = omega (arith, c .before .before .before .before .before .before .before .before .before .before .before .before .renew .ensures .0, whole-fits _ _ _ (c .before .before .before .before .before .before .before .before .before .before .before .before .before .before .before .before .before .before .before .loop .inv .0 .within) (c .before .before .before .before .before .before .before .before .before .before .before .before .before .before .before .before .before .whole .ensures) (c .before .before .before .before .before .before .before .before .before .before .before .before .before .before .before .before .if1 .left), c .before .before .before .before .before .before .before .before .before .before .before .before .before .before .before .before .before .before .before .before .before .before .before .before .before .before .before .good)
 
 add-read : tie.Need-add-read Inv-loop μ-loop
-add-read c = omega (arith, whole-fits _ _ _ (c .before .before .before .before .before .before .before .before .before .before .before .before .before .before .before .before .before .before .before .loop .inv .0 .within) (c .before .before .before .before .before .before .before .before .before .before .before .before .before .before .before .before .before .whole .ensures .0) (c .before .before .before .before .before .before .before .before .before .before .before .before .before .before .before .before .if1 .left), c .before .before .before .before .before .before .before .before .before .before .before .before .before .before .before .before .before .before .before .before .before .before .before .before .before .before .before .good)
+add-read c = omega (arith, whole-fits _ _ _ (c .before .before .before .before .before .before .before .before .before .before .before .before .before .before .before .before .before .before .before .loop .inv .0 .within) (c .before .before .before .before .before .before .before .before .before .before .before .before .before .before .before .before .before .whole .ensures) (c .before .before .before .before .before .before .before .before .before .before .before .before .before .before .before .before .if1 .left), c .before .before .before .before .before .before .before .before .before .before .before .before .before .before .before .before .before .before .before .before .before .before .before .before .before .before .before .good)
 
 add-answered : tie.Need-add-answered Inv-loop μ-loop
 add-answered c = omega (arith, c .before .before .before .before .before .before .before .before .before .before .before .before .before .before .before .before .before .before .loop-test .taken, c .before .before .before .before .before .before .before .before .before .before .before .before .before .before .before .before .before .before .before .loop .inv .0 .same, c .before .before .before .before .before .before .before .before .before .before .before .before .before .before .before .before .before .before .before .before .before .before .before .before .before .before .before .good)
@@ -65,8 +65,8 @@ loop-less : tie.Need-loop-less Inv-loop μ-loop
 loop-less c = omega (arith, c .before .before .before .before .before .before .before .before .before .before .before .before .before .before .before .before .before .before .loop-test .taken, c .before .before .before .before .before .before .before .before .before .before .before .before .before .before .before .before .before .before .before .loop .inv .0 .same)
 
 loop-again : tie.Need-loop-again Inv-loop μ-loop
-loop-again c = let w = whole-fits _ _ _ (c .before .before .before .before .before .before .before .before .before .before .before .before .before .before .before .before .before .before .before .loop .inv .0 .within) (c .before .before .before .before .before .before .before .before .before .before .before .before .before .before .before .before .before .whole .ensures .0) (c .before .before .before .before .before .before .before .before .before .before .before .before .before .before .before .before .if1 .left) in (
-  going-next _ _ _ (c .before .before .before .before .before .before .before .before .before .before .before .before .before .before .before .before .before .before .before .loop .inv .0 .within) (c .before .before .before .before .before .before .before .before .before .before .before .before .before .before .before .before .before .whole .ensures .0) (c .before .before .before .before .before .before .before .before .before .before .before .before .before .before .before .before .if1 .left) _ _ _ _ _ _ (c .before .before .before .before .before .before .before .before .before .before .before .before .before .before .before .before .before .before .before .loop .inv .0) (c .before .before .before .before .before .before .before .before .before .before .before .before .before .before .before .before .before .before .loop-test .taken) (c .before .before .before .before .answer .ensures .0),
+loop-again c = let w = whole-fits _ _ _ (c .before .before .before .before .before .before .before .before .before .before .before .before .before .before .before .before .before .before .before .loop .inv .0 .within) (c .before .before .before .before .before .before .before .before .before .before .before .before .before .before .before .before .before .whole .ensures) (c .before .before .before .before .before .before .before .before .before .before .before .before .before .before .before .before .if1 .left) in (
+  going-next _ _ _ (c .before .before .before .before .before .before .before .before .before .before .before .before .before .before .before .before .before .before .before .loop .inv .0 .within) (c .before .before .before .before .before .before .before .before .before .before .before .before .before .before .before .before .before .whole .ensures) (c .before .before .before .before .before .before .before .before .before .before .before .before .before .before .before .before .if1 .left) _ _ _ _ _ _ (c .before .before .before .before .before .before .before .before .before .before .before .before .before .before .before .before .before .before .before .loop .inv .0) (c .before .before .before .before .before .before .before .before .before .before .before .before .before .before .before .before .before .before .loop-test .taken) (c .before .before .before .before .answer .ensures .0),
   (unused-later _ _ _ _ (omega (arith, w, few-taken (c .before .before .before .before .before .before .before .before .before .before .before .before .before .before .before .before .before .before .before .loop .read + c .before .before .before .before .before .before .before .before .before .before .before .before .before .before .before .before .before .whole .result - (c .before .before .before .before .before .before .before .before .before .before .before .before .before .before .before .before .before .before .before .loop .read + 3)) (drop (c .before .before .before .before .before .before .before .before .before .before .before .before .before .before .before .before .before .before .before .loop .read + 3) (c .before .before .before .before .before .before .before .before .before .before .before .before .before .before .before .before .before .before .before .before .before .before .before .before .before .before .before .args .input .now)))) (c .before .before .before .before .answer .ensures .1 .0), unused-later _ _ _ _ (omega (arith, w, few-taken (c .before .before .before .before .before .before .before .before .before .before .before .before .before .before .before .before .before .before .before .loop .read + c .before .before .before .before .before .before .before .before .before .before .before .before .before .before .before .before .before .whole .result - (c .before .before .before .before .before .before .before .before .before .before .before .before .before .before .before .before .before .before .before .loop .read + 3)) (drop (c .before .before .before .before .before .before .before .before .before .before .before .before .before .before .before .before .before .before .before .loop .read + 3) (c .before .before .before .before .before .before .before .before .before .before .before .before .before .before .before .before .before .before .before .before .before .before .before .before .before .before .before .args .input .now)))) (c .before .before .before .before .answer .ensures .1 .1)),
 )
 
@@ -92,7 +92,7 @@ same-length-6 : tie.Need-same-length-6 Inv-loop μ-loop
 same-length-6 c = omega (arith, c .before .before .before .loop .inv .1 .1 .size, c .before .before .before .before .before .before .before .before .before .before .before .pre .1 .1 .size)
 
 returns-2 : tie.Need-returns-2 Inv-loop μ-loop
-returns-2 c = going-broken _ _ _ _ _ _ _ (c .before .before .before .loop .inv .0) _ (c .before .whole .ensures .0) (c .if1 .taken)
+returns-2 c = going-broken _ _ _ _ _ _ _ (c .before .before .before .loop .inv .0) _ (c .before .whole .ensures) (c .if1 .taken)
 
 pub answer-each-spec : {M : Type 1} → statement M
 answer-each-spec =
