@@ -25,7 +25,7 @@ shared-slice-read-if1 : tie.Need-shared-slice-read-if1 Inv-loop μ-loop
 shared-slice-read-if1 c = search needs
 
 returns : tie.Need-returns Inv-loop μ-loop
-returns c = sym (heads-not _ _ (c .before .before .loop-test .taken) (c .if1 .taken)) ∙ (c .before .before .before .loop .inv .1)
+returns c = sym (heads-not _ _ (c .before .before .loop-test .taken) (omega arith)) ∙ (c .before .before .before .loop .inv .1)
 
 add-i : tie.Need-add-i Inv-loop μ-loop
 add-i c = search needs
@@ -34,7 +34,7 @@ loop-less : tie.Need-loop-less Inv-loop μ-loop
 loop-less c = search needs
 
 loop-again : tie.Need-loop-again Inv-loop μ-loop
-loop-again c = (omega arith, sym (heads-next _ _ (c .before .before .loop-test .taken) (c .if1 .left)) ∙ (c .before .before .before .loop .inv .1))
+loop-again c = (omega arith, sym (heads-next _ _ (c .before .before .loop-test .taken) (omega arith)) ∙ (c .before .before .before .loop .inv .1))
 
 returns-2 : tie.Need-returns-2 Inv-loop μ-loop
 returns-2 c = sym (heads-end _ _ (c .loop-test .left)) ∙ (c .before .loop .inv .1)

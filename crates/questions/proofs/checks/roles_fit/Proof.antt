@@ -22,7 +22,7 @@ mul-end : tie.Need-mul-end Inv-loop μ-loop
 mul-end c = search needs
 
 returns : tie.Need-returns Inv-loop μ-loop
-returns c = ap check (sym (named-not _ (c .before .args .role ∷ c .before .args .chain .now) 0 (omega arith) (c .if1 .taken)))
+returns c = ap check (sym (named-not _ (c .before .args .role ∷ c .before .args .chain .now) 0 (omega arith) (omega arith)))
 
 loop-holds : tie.Need-loop-holds Inv-loop μ-loop
 loop-holds c = search needs

@@ -1,5 +1,6 @@
 -- `tables_fit` meets its contract: the tests are the definition's, in its order.
 use mathlib.Core.Path.{ap, sym, _∙_}
+use native.Mathlib.Omega.{arith}
 use borrow.Author.Needs.{needs}
 use Rattle.simulation.specs.Decides.{test-failed, test-passed}
 use Rattle.simulation.specs.TablesLaws.{heads-none, heads-many, heads-wrong, moves-cut, moves-many, moves-left}
@@ -11,7 +12,7 @@ returns : tie.Need-returns
 returns c = ap check (sym (heads-none _ _ (c .if1 .taken)))
 
 returns-2 : tie.Need-returns-2
-returns-2 c = ap check (sym (heads-many _ _ (c .before .if1 .left) (c .if2 .taken)))
+returns-2 c = ap check (sym (heads-many _ _ (c .before .if1 .left) (omega arith)))
 
 heads-fit-requires : tie.Need-heads-fit-requires
 heads-fit-requires c κs = search needs
