@@ -1,5 +1,6 @@
 // What stands at the front of the input: nothing, a part of a question, or a whole one.
 ghost use Rattle.transcriber.specs.Found.{Found};
+use words::word;
 
 pub enum Question {
     Nothing,
@@ -14,10 +15,7 @@ pub(crate) fn find(input: &[u8]) -> Question
     if size == 0 {
         return Question::Nothing;
     }
-    if size < 3 {
-        return Question::Part;
-    }
-    if size < 3 + (input[1] as usize + 256 * input[2] as usize) {
+    if size < 3 + word(input, 1) {
         return Question::Part;
     }
     Question::Whole

@@ -13,7 +13,7 @@ use Rattle.order.specs.Shape.{leads, trails, shape}
 use Rattle.tables.specs.Tables.{rules-of, has-symmetric, has-transitive, shapes, row-size, rows-size, row-transitions, rows-transitions, letters, back, size-of, transitions-of, roots-from, transitions-from, states-from, numbers}
 use Rattle.format.specs.Result.{Result, map-result}
 use Rattle.format.specs.Result.Result.{refused, ok}
-use Rattle.format.specs.Format.{word, front, named, one-rule, rules-from, decode, repeats, distinct, read}
+use Rattle.format.specs.Format.{front, named, one-rule, rules-from, decode, repeats, distinct, read}
 use Rattle.causes.specs.Ordered.{order-from, ordered}
 use Rattle.causes.specs.Built.{heads-of, moves-of, fitting, built, written}
 use Rattle.queries.specs.Query.{transitions-in, heads-fit, transitions-fit, tables-fit, query, asked, Answered}
@@ -101,7 +101,7 @@ test-holds e h =
 test-passed : all test examples ≡ true
 unfolding test replies writes examples all among same-pair same-result decide predecessors closure closed starts exhaustive found answers
     lines front-lines searched front-searched next decimal decimal-from
-    built fitting ordered order-from read decode distinct repeats rules-from one-rule front named word
+    built fitting ordered order-from read decode distinct repeats rules-from one-rule front named
     inverse inv-chain inv name polarity same-rule same-chain reaches with-inner shape leads trails
     rules-of has-symmetric has-transitive shapes row-size rows-size row-transitions rows-transitions letters back size-of transitions-of
     roots-from transitions-from states-from numbers transitions-in heads-fit transitions-fit tables-fit query asked

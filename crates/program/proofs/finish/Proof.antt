@@ -6,36 +6,25 @@ use lib.Seq.{length-take-le}
 use Rattle.transcriber.specs.PutsLaws.{puts-counts}
 use Rattle.program.proofs.finish.Statement.{statement}
 use Rattle.program.proofs.finish.Tie as tie
-use Rattle.program.proofs.finish.Reads as reads
-use Rattle.program.proofs.finish.Lts as lts
-use Rattle.io.proofs.write_all.Reads as write-all-reads
-use Rattle.transcriber.proofs.last_line.Reads as last-line-reads
 
--- src/lib.rt:116:47
 slice-aggregate-last-line : tie.Need-slice-aggregate-last-line
 slice-aggregate-last-line c = sym (length-take-le _ _ (c .before .before .pre))
 
--- src/lib.rt:116:9
 last-line-requires : tie.Need-last-line-requires
 last-line-requires c κs = search needs
 
--- src/lib.rt:117:38
 array-share-prefix-line : tie.Need-array-share-prefix-line
 array-share-prefix-line c = puts-counts (c .last-line .ensures) .0
 
--- src/lib.rt:117:38
 slice-aggregate-write-all : tie.Need-slice-aggregate-write-all
 slice-aggregate-write-all c = puts-counts (c .before .last-line .ensures) .1
 
--- src/lib.rt:117:9
 write-all-requires : tie.Need-write-all-requires
 write-all-requires c κs = search needs
 
--- src/lib.rt:118:9
 returns : tie.Need-returns
 returns c = inr refl
 
--- src/lib.rt:111:1
 returns-2 : tie.Need-returns-2
 returns-2 c = inl refl
 

@@ -7,35 +7,25 @@ use lib.Seq.{length-take-le}
 use Rattle.program.specs.RanLaws.{kept-short, reads-behind}
 use Rattle.program.proofs.read_more.Statement.{statement}
 use Rattle.program.proofs.read_more.Tie as tie
-use Rattle.program.proofs.read_more.Reads as reads
-use Rattle.program.proofs.read_more.Lts as lts
-use Rattle.program.proofs.read_once.Reads as read-once-reads
 
--- src/lib.rt:98:22
 sub-read-once : tie.Need-sub-read-once
 sub-read-once c = search needs
 
--- src/lib.rt:98:22
 part-read-once-start : tie.Need-part-read-once-start
 part-read-once-start c = search needs
 
--- src/lib.rt:98:22
 part-read-once-end : tie.Need-part-read-once-end
 part-read-once-end c = search needs
 
--- src/lib.rt:98:12
 read-once-requires : tie.Need-read-once-requires
 read-once-requires c κs = rw (length-take-le (length (c .before .before .args .input .now) - c .before .before .args .kept) (drop (c .before .before .args .kept) (c .before .before .args .input .now)) (omega (arith, length-drop (c .before .before .args .kept) (c .before .before .args .input .now)))) (omega (arith, c .before .before .pre .0, kept-short _ _ (λ i. omega (arith, c .before .slice-known .given i)) (c .before .before .pre .1) (c .before .before .pre .2)))
 
--- src/lib.rt:98:5
 add-result : tie.Need-add-result
 add-result c = search needs
 
--- src/lib.rt:94:1
 same-length : tie.Need-same-length
 same-length c = search needs
 
--- src/lib.rt:94:1
 returns : tie.Need-returns
 returns c = reads-behind _ _ (c .before .before .read-once .last .0) _ (c .before .before .before .before .before .pre .1) (search needs) (c .before .before .read-once .ensures)
 

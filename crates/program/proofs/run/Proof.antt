@@ -6,58 +6,40 @@ use Rattle.program.specs.Ran.Ran.{unwritten}
 use Rattle.program.specs.RanLaws.{ran-refused, ran-served}
 use Rattle.program.proofs.run.Statement.{statement}
 use Rattle.program.proofs.run.Tie as tie
-use Rattle.program.proofs.run.Reads as reads
-use Rattle.program.proofs.run.Lts as lts
-use Rattle.io.proofs.write_all.Reads as write-all-reads
-use Rattle.program.proofs.read_book.Reads as read-book-reads
-use Rattle.program.proofs.serve.Reads as serve-reads
-use Rattle.transcriber.proofs.open.Reads as open-reads
 
--- src/lib.rt:36:32
 slice-aggregate-read-book : tie.Need-slice-aggregate-read-book
 slice-aggregate-read-book c = search needs
 
--- src/lib.rt:36:9
 read-book-requires : tie.Need-read-book-requires
 read-book-requires c κs = search needs
 
--- src/lib.rt:37:37
 array-share-prefix-book : tie.Need-array-share-prefix-book
 array-share-prefix-book c = search needs
 
--- src/lib.rt:37:37
 slice-aggregate-open : tie.Need-slice-aggregate-open
 slice-aggregate-open c = search needs
 
--- src/lib.rt:37:9
 open-requires : tie.Need-open-requires
 open-requires c κs = search needs
 
--- src/lib.rt:39:38
 array-share-prefix-line : tie.Need-array-share-prefix-line
 array-share-prefix-line c = puts-counts (c .«open» .ensures .puts) .0
 
--- src/lib.rt:39:38
 slice-aggregate-write-all : tie.Need-slice-aggregate-write-all
 slice-aggregate-write-all c = puts-counts (c .before .«open» .ensures .puts) .1
 
--- src/lib.rt:39:9
 write-all-requires : tie.Need-write-all-requires
 write-all-requires c κs = search needs
 
--- src/lib.rt:40:9
 returns : tie.Need-returns
 returns c = unwritten
 
--- src/lib.rt:43:9
 returns-2 : tie.Need-returns-2
 returns-2 c = ran-refused (c .before .before .before .before .before .«open» .ensures) (not-true _ (c .if2 .taken))
 
--- src/lib.rt:46:5
 serve-requires : tie.Need-serve-requires
 serve-requires c κs = search needs
 
--- src/lib.rt:30:1
 returns-3 : tie.Need-returns-3
 returns-3 c = ran-served (c .before .before .before .before .before .before .before .«open» .ensures) (not-false _ (c .before .before .if2 .left)) (c .serve .ensures)
 

@@ -14,12 +14,6 @@ use Rattle.program.specs.Ran.Served.{unwritten}
 use Rattle.program.specs.RanLaws.{serving-none, serving-block, serving-broken, serving-ends, serving-exhausted}
 use Rattle.program.proofs.serve.Statement.{statement}
 use Rattle.program.proofs.serve.Tie as tie
-use Rattle.program.proofs.serve.Reads as reads
-use Rattle.program.proofs.serve.Lts as lts
-use Rattle.io.proofs.write_all.Reads as write-all-reads
-use Rattle.program.proofs.finish.Reads as finish-reads
-use Rattle.program.proofs.read_more.Reads as read-more-reads
-use Rattle.transcriber.proofs.answer_block.Reads as answer-block-reads
 
 abbrev Inv-loop : tie.InvT-loop
 Inv-loop tables input₀ out₀ number₀ kept₀ turns₀ input out number kept turns =
@@ -29,67 +23,51 @@ Inv-loop tables input₀ out₀ number₀ kept₀ turns₀ input out number kept
 abbrev μ-loop : tie.MeasureT-loop
 μ-loop tables input₀ out₀ number₀ kept₀ turns₀ input out number kept turns = turns
 
--- src/lib.rt:76:5
 loop-holds : tie.Need-loop-holds Inv-loop μ-loop
 loop-holds c = (length-replicate {A = ℕ} 65538 0, length-replicate {A = ℕ} 1398144 0, omega arith, serving-none)
 
--- src/lib.rt:77:29
 slice-aggregate-read-more : tie.Need-slice-aggregate-read-more Inv-loop μ-loop
 slice-aggregate-read-more c = search needs
 
--- src/lib.rt:77:13
 read-more-requires : tie.Need-read-more-requires Inv-loop μ-loop
 read-more-requires c κs = (omega (arith, c .before .before .before .loop .inv .0), c .before .before .before .loop .inv .2, serving-broken (c .before .before .before .loop .inv .3) (search needs))
 
--- src/lib.rt:79:41
 slice-aggregate-finish : tie.Need-slice-aggregate-finish Inv-loop μ-loop
 slice-aggregate-finish c = search needs
 
--- src/lib.rt:79:13
 finish-requires : tie.Need-finish-requires Inv-loop μ-loop
 finish-requires c κs = rw (c .before .before .before .read-more .ensures .same) (c .before .before .before .before .before .before .before .loop .inv .2)
 
--- src/lib.rt:79:13
 returns : tie.Need-returns Inv-loop μ-loop
 returns c = serving-ends (c .before .before .before .before .before .before .before .before .loop .inv .3) (search needs) (c .finish .ensures)
 
--- src/lib.rt:81:66
 slice-aggregate-answer-block : tie.Need-slice-aggregate-answer-block Inv-loop μ-loop
 slice-aggregate-answer-block c = search needs
 
--- src/lib.rt:81:83
 slice-aggregate-answer-block-2 : tie.Need-slice-aggregate-answer-block-2 Inv-loop μ-loop
 slice-aggregate-answer-block-2 c = search needs
 
--- src/lib.rt:81:13
 answer-block-requires : tie.Need-answer-block-requires Inv-loop μ-loop
 answer-block-requires c κs = search needs
 
--- src/lib.rt:85:42
 array-share-prefix-out : tie.Need-array-share-prefix-out Inv-loop μ-loop
 array-share-prefix-out c = puts-counts (c .before .before .answer-block .ensures .puts) .0
 
--- src/lib.rt:85:42
 slice-aggregate-write-all : tie.Need-slice-aggregate-write-all Inv-loop μ-loop
 slice-aggregate-write-all c = puts-counts (c .before .before .before .answer-block .ensures .puts) .1
 
--- src/lib.rt:85:13
 write-all-requires : tie.Need-write-all-requires Inv-loop μ-loop
 write-all-requires c κs = search needs
 
--- src/lib.rt:86:13
 returns-2 : tie.Need-returns-2 Inv-loop μ-loop
 returns-2 c = unwritten
 
--- src/lib.rt:88:9
 sub-turns : tie.Need-sub-turns Inv-loop μ-loop
 sub-turns c = search needs
 
--- src/lib.rt:76:5
 loop-less : tie.Need-loop-less Inv-loop μ-loop
 loop-less c = search needs
 
--- src/lib.rt:76:5
 loop-again : tie.Need-loop-again Inv-loop μ-loop
 loop-again c =
     let read = c .before .before .before .before .before .before .before .before .before .before .read-more .ensures in
@@ -102,11 +80,9 @@ loop-again c =
       serving-block (c .before .before .before .before .before .before .before .before .before .before .before .before .before .before .loop .inv .3) (search needs) read (c .before .before .before .before .before .before .before .before .before .before .before .before .before .before .loop .inv .2) answer (omega (arith, read .same, size, room)),
     )
 
--- src/lib.rt:66:1
 returns-3 : tie.Need-returns-3 Inv-loop μ-loop
 returns-3 c = serving-exhausted (c .before .before .loop .inv .3) (inr (search needs))
 
--- src/lib.rt:66:1
 returns-4 : tie.Need-returns-4 Inv-loop μ-loop
 returns-4 c = serving-exhausted (c .before .loop .inv .3) (inl (search needs))
 

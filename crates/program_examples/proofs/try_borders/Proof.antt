@@ -3,11 +3,6 @@ use Prim.Native.Nat.{_-_, _≤_}
 use borrow.Author.Needs.{needs}
 use Rattle.program_examples.proofs.try_borders.Statement.{statement}
 use Rattle.program_examples.proofs.try_borders.Tie as tie
-use Rattle.program_examples.proofs.try_borders.Reads as reads
-use Rattle.program_examples.proofs.try_borders.Lts as lts
-use Rattle.io.proofs.print_decimal.Reads as print-decimal-reads
-use Rattle.program_examples.proofs.blocks.try_blocks.Reads as try-blocks-reads
-use Rattle.program_examples.proofs.say.Reads as say-reads
 
 abbrev Inv-loop : tie.InvT-loop
 Inv-loop border₀ t2 t3 t4 border = border ≤ 27
@@ -15,51 +10,39 @@ Inv-loop border₀ t2 t3 t4 border = border ≤ 27
 abbrev μ-loop : tie.MeasureT-loop
 μ-loop border₀ t2 t3 t4 border = 27 - border
 
--- src/main.rt:51:5
 loop-holds : tie.Need-loop-holds Inv-loop μ-loop
 loop-holds c = search needs
 
--- src/main.rt:52:13
 slice-aggregate-say : tie.Need-slice-aggregate-say Inv-loop μ-loop
 slice-aggregate-say c = search needs
 
--- src/main.rt:52:9
 say-requires : tie.Need-say-requires Inv-loop μ-loop
 say-requires c κs = search needs
 
--- src/main.rt:53:9
 print-decimal-requires : tie.Need-print-decimal-requires Inv-loop μ-loop
 print-decimal-requires c κs = search needs
 
--- src/main.rt:54:13
 slice-aggregate-say-2 : tie.Need-slice-aggregate-say-2 Inv-loop μ-loop
 slice-aggregate-say-2 c = search needs
 
--- src/main.rt:54:9
 say-requires-2 : tie.Need-say-requires-2 Inv-loop μ-loop
 say-requires-2 c κs = search needs
 
--- src/main.rt:55:20
 slice-aggregate-try-blocks : tie.Need-slice-aggregate-try-blocks Inv-loop μ-loop
 slice-aggregate-try-blocks c = search needs
 
--- src/main.rt:55:9
 try-blocks-requires : tie.Need-try-blocks-requires Inv-loop μ-loop
 try-blocks-requires c κs = search needs
 
--- src/main.rt:56:9
 add-border : tie.Need-add-border Inv-loop μ-loop
 add-border c = search needs
 
--- src/main.rt:51:5
 loop-less : tie.Need-loop-less Inv-loop μ-loop
 loop-less c = search needs
 
--- src/main.rt:51:5
 loop-again : tie.Need-loop-again Inv-loop μ-loop
 loop-again c = search needs
 
--- src/main.rt:49:1
 returns : tie.Need-returns Inv-loop μ-loop
 returns c = search needs
 

@@ -5,9 +5,6 @@ use lib.ListN.{length}
 use borrow.Author.Needs.{needs}
 use Rattle.program_examples.proofs.blocks.append.Statement.{statement}
 use Rattle.program_examples.proofs.blocks.append.Tie as tie
-use Rattle.program_examples.proofs.blocks.append.Reads as reads
-use Rattle.program_examples.proofs.blocks.append.Lts as lts
-use Rattle.texts.proofs.byte.Reads as byte-reads
 
 abbrev Inv-loop : tie.InvT-loop
 Inv-loop buffer₀ at text i₀ end₀ buffer i end = length buffer ≡ length buffer₀
@@ -15,47 +12,36 @@ Inv-loop buffer₀ at text i₀ end₀ buffer i end = length buffer ≡ length b
 abbrev μ-loop : tie.MeasureT-loop
 μ-loop buffer₀ at text i₀ end₀ buffer i end = length text - i
 
--- src/blocks.rt:45:5
 loop-holds : tie.Need-loop-holds Inv-loop μ-loop
 loop-holds c = search needs
 
--- src/blocks.rt:47:13
 same-length : tie.Need-same-length Inv-loop μ-loop
 same-length c = search needs
 
--- src/blocks.rt:47:13
 returns : tie.Need-returns Inv-loop μ-loop
 returns c = search needs
 
--- src/blocks.rt:49:23
 byte-requires : tie.Need-byte-requires Inv-loop μ-loop
 byte-requires c κs = search needs
 
--- src/blocks.rt:49:9
 slice-write-buffer : tie.Need-slice-write-buffer Inv-loop μ-loop
 slice-write-buffer c = search needs
 
--- src/blocks.rt:50:9
 add-end : tie.Need-add-end Inv-loop μ-loop
 add-end c = search needs
 
--- src/blocks.rt:51:9
 add-i : tie.Need-add-i Inv-loop μ-loop
 add-i c = search needs
 
--- src/blocks.rt:45:5
 loop-less : tie.Need-loop-less Inv-loop μ-loop
 loop-less c = search needs
 
--- src/blocks.rt:45:5
 loop-again : tie.Need-loop-again Inv-loop μ-loop
 loop-again c = search needs
 
--- src/blocks.rt:42:1
 same-length-2 : tie.Need-same-length-2 Inv-loop μ-loop
 same-length-2 c = search needs
 
--- src/blocks.rt:42:1
 returns-2 : tie.Need-returns-2 Inv-loop μ-loop
 returns-2 c = search needs
 

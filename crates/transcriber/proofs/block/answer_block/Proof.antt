@@ -5,41 +5,28 @@ use lib.Seq.{length-take-le}
 use Rattle.transcriber.specs.AdvancesLaws.{answers-kept}
 use Rattle.transcriber.proofs.block.answer_block.Statement.{statement}
 use Rattle.transcriber.proofs.block.answer_block.Tie as tie
-use Rattle.transcriber.proofs.block.answer_block.Reads as reads
-use Rattle.transcriber.proofs.block.answer_block.Lts as lts
-use Rattle.transcriber.proofs.block.answer_front.Reads as answer-front-reads
-use Rattle.transcriber.proofs.block.front_size.Reads as front-size-reads
-use Rattle.transcriber.proofs.block.keep.Reads as keep-reads
 
--- src/block.rt:24:9
 front-size-requires : tie.Need-front-size-requires
 front-size-requires c κs = search needs
 
--- src/block.rt:25:48
 slice-reshare-prefix-answer-front : tie.Need-slice-reshare-prefix-answer-front
 slice-reshare-prefix-answer-front c = search needs
 
--- src/block.rt:25:48
 slice-aggregate-answer-front : tie.Need-slice-aggregate-answer-front
 slice-aggregate-answer-front c = sym (length-take-le _ _ (c .before .front-size .ensures .0))
 
--- src/block.rt:25:9
 answer-front-requires : tie.Need-answer-front-requires
 answer-front-requires c κs = search needs
 
--- src/block.rt:29:15
 keep-requires : tie.Need-keep-requires
 keep-requires c κs = search needs
 
--- src/block.rt:21:1
 same-length : tie.Need-same-length
 same-length c = search needs
 
--- src/block.rt:21:1
 same-length-2 : tie.Need-same-length-2
 same-length-2 c = search needs
 
--- src/block.rt:21:1
 returns : tie.Need-returns
 returns c = answers-kept (c .before .before .before .before .before .before .before .before .before .front-size .ensures) (c .before .before .before .before .before .before .answer-front .ensures) (c .before .before .keep .ensures)
 

@@ -5,40 +5,28 @@ use lib.ListN.{length-replicate}
 use Rattle.transcriber.specs.OpenedLaws.{opened-built, opened-refused}
 use Rattle.transcriber.proofs.opening.open.Statement.{statement}
 use Rattle.transcriber.proofs.opening.open.Tie as tie
-use Rattle.transcriber.proofs.opening.open.Reads as reads
-use Rattle.transcriber.proofs.opening.open.Lts as lts
-use Rattle.builder.proofs.build.Reads as build-reads
-use Rattle.transcriber.proofs.line.first_line.Reads as first-line-reads
 
--- src/opening.rt:27:40
 slice-aggregate-build : tie.Need-slice-aggregate-build
 slice-aggregate-build c = search needs
 
--- src/opening.rt:27:52
 slice-aggregate-build-2 : tie.Need-slice-aggregate-build-2
 slice-aggregate-build-2 c = search needs
 
--- src/opening.rt:27:9
 build-requires : tie.Need-build-requires
 build-requires c κs = search needs
 
--- src/opening.rt:28:9
 first-line-requires : tie.Need-first-line-requires
 first-line-requires c κs = search needs
 
--- src/opening.rt:30:24
 enum-known-outcome : tie.Need-enum-known-outcome
 enum-known-outcome c = search needs
 
--- src/opening.rt:42:24
 enum-told : tie.Need-enum-told
 enum-told c = search needs
 
--- src/opening.rt:22:1
 returns : tie.Need-returns
 returns c = opened-built _ _ _ _ _ _ _ _ (length-replicate {A = ℕ} 64 0) (length-replicate {A = ℕ} 15360 0) _ (c .before .before .before .before .before .before .before .build .ensures) (c .before .before .before .first-line .ensures) _ (c .before .outcome .given .1)
 
--- src/opening.rt:22:1
 returns-2 : tie.Need-returns-2
 returns-2 c = opened-refused _ _ _ _ _ _ _ _ (length-replicate {A = ℕ} 64 0) (length-replicate {A = ℕ} 15360 0) _ (c .before .before .before .before .before .before .build .ensures) (c .before .before .first-line .ensures) _ (c .enum-told .given .1)
 
