@@ -72,10 +72,6 @@ module _ (w : List ℕ) (r : ℕ) (sh : Shape) (d : sh ≡ shape-found w r) wher
   unfolding shape-found
   found-within = subst (Within w) (sym d) (in-part-within _ (view (record { left = w; right = r })))
 
--- the promise settles the answer: two answers that meet it are equal
-pub found-once : (w : List ℕ) (r : ℕ) (a b : Shape) → a ≡ shape-found w r → b ≡ shape-found w r → a ≡ b
-found-once w r a b p q = p ∙ sym q
-
 -- the inner roles of R R R to R stand at two places of its left side: the answer names the last two
 pub found-thrice : (r : ℕ) → shape-found (r ∷ r ∷ r ∷ []) r ≡ Row (record { from = true; to = true; start = 1; size = 2 })
 found-thrice r = sym (found-led (r ∷ r ∷ r ∷ []) r (shape-led (r ∷ r ∷ r ∷ []) r (omega arith) refl (λ e f. omega arith)))
