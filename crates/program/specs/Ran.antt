@@ -12,23 +12,25 @@ use Rattle.format.specs.Result.Result.{refused, ok}
 use Rattle.causes.specs.Built.{built}
 use Rattle.queries.specs.Input.{Broken}
 use Rattle.answers.specs.Reply.{Decided}
-use Rattle.transcripts.specs.Block.{Blocks}
+use Rattle.transcripts.specs.Block.{Blocks, joined}
 use Rattle.program.specs.declared.Stop.{Stop}
 use Rattle.program.specs.declared.Stop.the-variants.{Refused, Ended, Unwritten, Exhausted}
 
--- the blocks that were read are answered, up to a question k whose bytes are kept; `turns` blocks more may be read
+-- the blocks that were read are answered, up to a question k whose bytes are kept; `turns` blocks more may be read. No block is empty, so 2^64 - 1 blocks
+-- have as many bytes
 pub record Serving (Says : ℕ → Chain → Result Bool → Type 0) (k : ℕ) (kept : List ℕ) (turns : ℕ) : Type 0 where
   pub blocks : List (List ℕ)
   pub lines : List ℕ
   pub answered : Blocks Says 0 [] blocks lines k kept
   pub left : Broken kept ⊎ (18446744073709551615 ≤ k)
-  pub counted : length blocks + turns ≡ 18446744073709551615
+  pub counted : 18446744073709551615 ≤ length (joined blocks) + turns
 
--- why no more blocks are read. At the end of the input no whole question is left, so the last line is that of what is kept
+-- why no more blocks are read. At the end of the input no whole question is left, so the last line is that of what is kept; else 2^64 - 1 bytes are read
+-- or so many questions answered
 pub data Served (Says : ℕ → Chain → Result Bool → Type 0) : Stop → Type 0 where
   ended : {k : ℕ} {kept lines : List ℕ} {blocks : List (List ℕ)} → Blocks Says 0 [] blocks lines k kept → Broken kept → Served Says Ended
   exhausted : {k : ℕ} {kept lines : List ℕ} {blocks : List (List ℕ)} → Blocks Says 0 [] blocks lines k kept
-      → (length blocks ≡ 18446744073709551615) ⊎ (18446744073709551615 ≤ k) → Served Says Exhausted
+      → (18446744073709551615 ≤ length (joined blocks)) ⊎ (18446744073709551615 ≤ k) → Served Says Exhausted
   unwritten : Served Says Unwritten
 
 -- why the program stops

@@ -16,7 +16,7 @@ use Rattle.causes.specs.Built.{built}
 use Rattle.queries.specs.Query.{Answered}
 use Rattle.queries.specs.Input.{Broken}
 use Rattle.answers.specs.Reply.{Decided}
-use Rattle.transcripts.specs.Block.{Block, Blocks}
+use Rattle.transcripts.specs.Block.{Block, Blocks, joined}
 use Rattle.transcripts.specs.Block.Blocks.{none, more}
 use Rattle.transcripts.specs.BlockLaws.{block-all}
 use Rattle.transcriber.specs.declared.block.Progress.{Progress}
@@ -55,6 +55,17 @@ reads-behind kept q part count h same l =
       within = rw long (omega (arith, same, size, l, h));
     }
 
+-- the bytes of one block more
+joined-after : (blocks : List (List ℕ)) (block : List ℕ) → length (joined (blocks ++ (block ∷ []))) ≡ length (joined blocks) + length block
+joined-after [] block = ap length (append-nil block) ∙ omega arith
+joined-after (b ∷ blocks) block =
+    omega (
+      arith,
+      length-append b (joined (blocks ++ (block ∷ []))),
+      length-append b (joined blocks),
+      joined-after blocks block,
+    )
+
 module _ {Says : ℕ → Chain → Result Bool → Type 0} where
   -- one block more
   blocks-after : {k k′ k″ room : ℕ} {kept kept′ kept″ lines lines′ : List ℕ} {blocks : List (List ℕ)} → Blocks Says k kept blocks lines k′ kept′
@@ -69,14 +80,15 @@ module _ {Says : ℕ → Chain → Result Bool → Type 0} where
   serving-none = record { blocks = []; lines = []; answered = none; left = inl (omega arith); counted = omega arith }
 
   serving-next : {k k′ room turns : ℕ} {kept lines rest : List ℕ} → Serving Says k kept turns → 0 < turns
-      → (block : List ℕ) → Block Says k (kept ++ block) room lines k′ rest → 64 * length (kept ++ block) ≤ 3 * room → Serving Says k′ rest (turns - 1)
-  serving-next {lines = lines} s some block b space =
+      → (block : List ℕ) → 0 < length block → Block Says k (kept ++ block) room lines k′ rest → 64 * length (kept ++ block) ≤ 3 * room
+      → Serving Says k′ rest (turns - 1)
+  serving-next {lines = lines} s some block filled b space =
       record {
         blocks = s .blocks ++ (block ∷ []);
         lines = s .lines ++ lines;
         answered = blocks-after (s .answered) block b;
         left = block-all b space;
-        counted = omega (arith, s .counted, length-append (s .blocks) (block ∷ []));
+        counted = omega (arith, s .counted, joined-after (s .blocks) block);
       }
 
   -- while a number is left, what is kept is no whole question
@@ -99,7 +111,7 @@ module _ {Says : ℕ → Chain → Result Bool → Type 0} where
 
 -- a block that is read and answered
 module _ {hs ms q q′ q″ out out′ : List ℕ} {k kept end turns : ℕ} {p : Progress} where
-  pub serving-block : Serving (Answered hs ms) k (take kept q) turns → 0 < turns → Reads kept q q′ end → kept ≤ length q
+  pub serving-block : Serving (Answered hs ms) k (take kept q) turns → 0 < turns → Reads kept q q′ end → kept < end
       → Answers hs ms k q′ end out q″ out′ p → 64 * length q′ ≤ 3 * length out → Serving (Answered hs ms) (p .number) (take (p .kept) q″) (turns - 1)
   serving-block s some r h a space =
       let block : List ℕ = drop kept (take end q′) in
@@ -107,7 +119,8 @@ module _ {hs ms q q′ q″ out out′ : List ℕ} {k kept end turns : ℕ} {p :
       sym (take-append-drop kept (take end q′)) ∙ ap (λ (f : List ℕ). f ++ block) (take-take kept end q′ (r .after) ∙ r .front) in
       let rest : take (p .kept) q″ ≡ a .rest = puts-front q′ (a .rest) q″ 0 (p .kept) (a .keeps) in
       rw rest
-      (serving-next s some block (rw front at (a .block)) (rw (← front) (omega (arith, space, length-take-le end q′ (r .within), r .within))))
+      (serving-next s some block (omega (arith, length-drop kept (take end q′), length-take-le end q′ (r .within), h)) (rw front at (a .block))
+      (rw (← front) (omega (arith, space, length-take-le end q′ (r .within), r .within))))
 
 -- what opening a book says of the run
 module _ {s h m line line′ : List ℕ} {o : Opening} (p : Opens s h m line line′ o) where

@@ -77,7 +77,7 @@ loop-again c =
       puts-length _ _ _ _ _ (answer .keeps) ∙ read .same ∙ size,
       puts-length _ _ _ _ _ (answer .puts) ∙ room,
       puts-counts (answer .keeps) .0,
-      serving-block (c .before .before .before .before .before .before .before .before .before .before .before .before .before .before .loop .inv .3) (search needs) read (c .before .before .before .before .before .before .before .before .before .before .before .before .before .before .loop .inv .2) answer (omega (arith, read .same, size, room)),
+      serving-block (c .before .before .before .before .before .before .before .before .before .before .before .before .before .before .loop .inv .3) (search needs) read (search needs) answer (omega (arith, read .same, size, room)),
     )
 
 returns-3 : tie.Need-returns-3 Inv-loop μ-loop
