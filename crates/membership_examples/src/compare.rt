@@ -13,7 +13,7 @@ pub(crate) struct Compared {
     pub(crate) yes: bool,
 }
 
-// Puts a question about a book to its tables and to its rules.
+// Puts a question to tables and to rules.
 pub(crate) fn compare(heads: &[u16], moves: &[u16], rules: Rules, question: Question) -> Compared {
     let chain = question.chain;
     let space = spelled(chain);

@@ -1,6 +1,6 @@
 // Tries the answerer on document 01's questions, on tables that no book gave and on every edge of causes 12 to 14; then compares it with a
-// second method, which decides derivation from the rules alone. `stdin` holds what is tried, a line each; `stdout` holds what the program must
-// write.
+// second method, which decides derivation from the rules alone, and shows differences that it must find. `stdin` holds what is tried, a line each;
+// `stdout` holds what the program must write.
 mod built;
 mod chain;
 mod compare;
@@ -25,7 +25,7 @@ fn main() {
     try_lines(&space[..size]);
 }
 
-// Tries up to a thousand lines, to the first at which the two methods differ.
+// Tries up to a thousand lines, to the first at which the two methods differ where they must agree, or agree where they must differ.
 fn try_lines(script: &[u8]) {
     let mut at = 0;
     let mut turns = 1000usize;

@@ -1,4 +1,4 @@
-// Tries books: their questions are put to both methods and counted, up to the first difference.
+// Tries books: their questions are put to both methods and counted, up to the first book on which they differ.
 use crate::built::Tables;
 use crate::built::build;
 use crate::compare::compare;
@@ -23,7 +23,7 @@ pub(crate) struct Trial {
     pub(crate) agreed: bool,
 }
 
-// Tries 2,500 books made from a seed, each on 60 questions, up to the first difference: then fewer are agreed on than are asked.
+// Tries 2,500 books made from a seed, each on 60 questions, up to the first book with a difference: then fewer are agreed on than are asked.
 pub(crate) fn try_made() {
     let mut seed = 1;
     let mut counts = [0u64; 32];
@@ -32,14 +32,8 @@ pub(crate) fn try_made() {
         turns -= 1;
         let made = make_book(seed);
         let book = made.book;
-        let trial = try_book(
-            part(&book, 0, made.size),
-            made.marks,
-            false,
-            60,
-            made.seed,
-            counts,
-        );
+        let own = part(&book, 0, made.size);
+        let trial = try_book(own, own, made.marks, false, 60, made.seed, counts);
         let more = trial.counts;
         counts = more;
         seed = trial.seed;
@@ -57,9 +51,11 @@ fn report(counts: [u64; 32]) {
     );
 }
 
-// Builds the tables of a book and counts it by its marks; where it is accepted, asks so many questions, of every chain or from the seed.
+// Builds the tables of a book and counts it by its marks; where it is accepted, puts so many questions to them and to the rules of a book, which is
+// the same one or another: of every chain or from the seed.
 pub(crate) fn try_book(
     book: &[u8],
+    ruled: &[u8],
     marks: u64,
     every: bool,
     questions: usize,
@@ -79,7 +75,7 @@ pub(crate) fn try_book(
     let counts = add(before, MADE, 1);
     if tables.cause == 0 {
         let counts = add_book(counts, marks, tables.states);
-        return ask_all(book, tables, every, questions, seed, counts);
+        return ask_all(ruled, tables, every, questions, seed, counts);
     }
     let counts = add(counts, REFUSED + tables.cause % 12, 1);
     Trial {
@@ -103,22 +99,23 @@ fn add_book(before: [u64; 32], marks: u64, states: usize) -> [u64; 32] {
     counts
 }
 
-// Asks so many questions about a book, up to the first difference.
+// Puts so many questions to tables and to the rules of a book; whether the two agree on all.
 fn ask_all(
-    book: &[u8],
+    ruled: &[u8],
     tables: Tables,
     every: bool,
     questions: usize,
     seed: u64,
     before: [u64; 32],
 ) -> Trial {
-    let rules = rules_of(book);
+    let rules = rules_of(ruled);
     let head_numbers = tables.heads;
     let move_numbers = tables.moves;
     let heads = numbers_of(&head_numbers, tables.names);
     let moves = numbers_of(&move_numbers, tables.numbers);
     let mut counts = before;
     let mut next = seed;
+    let mut agreed = true;
     let mut i = 0;
     while i < questions {
         let question = nth_question(every, i, next, rules);
@@ -126,18 +123,12 @@ fn ask_all(
         let compared = compare(heads, moves, rules, question);
         let more = add_question(counts, question.kind, compared);
         counts = more;
-        if !compared.agreed {
-            return Trial {
-                seed: next,
-                counts: counts,
-                agreed: false,
-            };
-        }
+        agreed = agreed && compared.agreed;
         i += 1;
     }
     Trial {
         seed: next,
         counts: counts,
-        agreed: true,
+        agreed: agreed,
     }
 }

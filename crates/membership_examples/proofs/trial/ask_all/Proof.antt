@@ -5,10 +5,10 @@ use Rattle.membership_examples.proofs.trial.ask_all.Statement.{statemen
 use Rattle.membership_examples.proofs.trial.ask_all.Tie as tie
 
 abbrev Inv-loop : tie.InvT-loop
-Inv-loop book every questions seed rules heads moves counts₀ next₀ i₀ counts next i = Unit
+Inv-loop ruled every questions seed rules heads moves counts₀ next₀ agreed₀ i₀ counts next agreed i = Unit
 
 abbrev μ-loop : tie.MeasureT-loop
-μ-loop book every questions seed rules heads moves counts₀ next₀ i₀ counts next i = questions - i
+μ-loop ruled every questions seed rules heads moves counts₀ next₀ agreed₀ i₀ counts next agreed i = questions - i
 
 pub ask-all-spec : {M : Type 1} → statement M
 ask-all-spec =
@@ -25,7 +25,6 @@ ask-all-spec =
     (λ c κs. search needs)
     (λ c κs. search needs)
     (λ c κs. search needs)
-    (λ c. search needs)
     (λ c. search needs)
     (λ c. search needs)
     (λ c. search needs)
