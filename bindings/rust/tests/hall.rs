@@ -1,17 +1,27 @@
 //! The hall book, every cause that a caller can meet, and what the calls leave unchanged.
 
 use rabbitsteel::{
-    ask, build, derived, inverse, order, read, role, Cause, Counts, Header, Refusal, Tables,
-    CHAIN_MAX, MOVES_LEN, NAMES_MAX, RULES_MAX, SILENT,
+    ask, build, derived, inverse, order, read, Cause, Counts, Header, Refusal, Tables,
 };
 
-const PART: u8 = role(0);
-const SITS: u8 = role(1);
-const LET: u8 = role(2);
-const DUE: u8 = role(3);
+const PART: u8 = 0;
+const SITS: u8 = 2;
+const LET: u8 = 4;
+const DUE: u8 = 6;
+/// The hall book has no such name.
+const UNKNOWN: u8 = 8;
 
 const HALL: [u8; 20] = [
     b'R', b'L', b'B', 1, 0, 4, 3, 0, PART, 2, PART, PART, SITS, 2, PART, SITS, DUE, 2, SITS, LET,
+];
+
+#[rustfmt::skip]
+const HALL_MOVES: [u16; 54] = [
+    0, 0, 1,  1, 128, 0,
+    2, 2, 3,  2, 128, 4,  4, 0, 5,  5, 128, 4,  5, 128, 2,
+    6, 4, 7,
+    8, 6, 9,  8, 128, 10,  10, 2, 11,  10, 128, 12,  12, 0, 13,  13, 128, 12,  13, 128, 10,
+    11, 128, 14,  14, 4, 15,  15, 128, 9,
 ];
 
 /// A number that no build writes.
@@ -57,7 +67,7 @@ fn assert_not_ordered(book: &[u8], cause: Cause, value: usize) {
 
 /// A book that has no tables. The lent ones are left as they were.
 fn assert_not_built(book: &[u8], cause: Cause, value: usize) {
-    let (mut heads, mut moves) = ([UNTOUCHED; NAMES_MAX], [UNTOUCHED; MOVES_LEN]);
+    let (mut heads, mut moves) = ([UNTOUCHED; 64], [UNTOUCHED; 15360]);
     assert_eq!(build(book, &mut heads, &mut moves), refused(cause, value));
     assert_eq!(
         derived(book, &mut heads, &mut moves, PART, &[]),
@@ -77,14 +87,14 @@ fn hall_book_is_read_and_ordered() {
 #[test]
 fn hall_book_answers_its_questions() {
     let tables = Tables::of(&HALL).unwrap();
-    let (mut heads, mut moves) = ([0; NAMES_MAX], [0; MOVES_LEN]);
+    let (mut heads, mut moves) = ([0; 64], [0; 15360]);
     let inverses = [inverse(LET), inverse(SITS), inverse(PART)];
     let questions: [(u8, &[u8], Result<bool, Refusal>); 7] = [
         (DUE, &[PART, PART, SITS, LET], Ok(true)),
         (DUE, &[SITS, PART, LET], Ok(false)),
         (inverse(DUE), &inverses, Ok(true)),
         (DUE, &[], refused(Cause::Chain, 0)),
-        (DUE, &[role(4)], refused(Cause::Role, 0)),
+        (DUE, &[UNKNOWN], refused(Cause::Role, 0)),
         (DUE, &[DUE], Ok(true)),
         (SITS, &[PART], Ok(false)),
     ];
@@ -105,18 +115,24 @@ fn hall_tables_are_cut_to_what_is_written() {
         }
     );
     assert_eq!(tables.heads(), [0, 2, 6, 8]);
-    assert_eq!(tables.moves().len(), tables.counts().numbers());
-    assert_eq!(tables.moves()[..6], [0, u16::from(PART), 1, 1, SILENT, 0]);
+    assert_eq!(tables.moves(), HALL_MOVES);
 }
 
 #[test]
 fn numbers_after_the_tables_are_left() {
-    let tables = Tables::of(&HALL).unwrap();
-    let (mut heads, mut moves) = ([UNTOUCHED; NAMES_MAX], [UNTOUCHED; MOVES_LEN]);
-    let counts = build(&HALL, &mut heads, &mut moves).unwrap();
+    let (mut heads, mut moves) = ([UNTOUCHED; 64], [UNTOUCHED; 15360]);
+    let counts = build(&HALL, &mut heads, &mut moves);
+    assert_eq!(
+        counts,
+        Ok(Counts {
+            states: 16,
+            moves: 18
+        })
+    );
     let (built_heads, other_heads) = heads.split_at(4);
-    let (built_moves, other_moves) = moves.split_at(counts.numbers());
-    assert_eq!((built_heads, built_moves), (tables.heads(), tables.moves()));
+    let (built_moves, other_moves) = moves.split_at(54);
+    assert_eq!(built_heads, [0, 2, 6, 8]);
+    assert_eq!(built_moves, HALL_MOVES);
     assert!(untouched(other_heads, other_moves));
     // Lent whole, they are no tables.
     assert_eq!(
@@ -157,8 +173,8 @@ fn bytes_that_are_no_book() {
     assert_not_read(&book(0, &[]), Cause::Range, 0);
     assert_not_read(&book(65, &[]), Cause::Range, 0);
     let rule: (u8, &[u8]) = (0, &[2]);
-    assert_not_read(&book(64, &[rule; RULES_MAX + 1]), Cause::Range, 0);
-    assert_not_read(&book(64, &[rule; RULES_MAX]), Cause::Repeated, 1);
+    assert_not_read(&book(64, &[rule; 257]), Cause::Range, 0);
+    assert_not_read(&book(64, &[rule; 256]), Cause::Repeated, 1);
 }
 
 #[test]
@@ -191,7 +207,7 @@ fn rules_without_an_order() {
 fn tables_that_are_too_large() {
     // Each name has eight copies of the one before it: 2, 18, 146, 1,170 and 9,362 states. Cause 10
     // is not to be had: 2,048 states have at most 5,120 moves.
-    let eight = |name| [role(name); 8];
+    let eight = |name: u8| [2 * name; 8];
     let (zero, one, two, three) = (eight(0), eight(1), eight(2), eight(3));
     let rules: [(u8, &[u8]); 4] = [(2, &zero), (4, &one), (6, &two), (8, &three)];
     assert!(order(&book(5, &rules)).is_ok());
@@ -207,7 +223,7 @@ fn numbers_that_are_no_tables() {
     assert_eq!(ask(&[0; 65], &[], PART, &[PART]), none);
     assert_eq!(ask(&[2047], &[], PART, &[PART]), none);
     assert_eq!(ask(&[0], &[0, 0], PART, &[PART]), none);
-    assert_eq!(ask(&[0], &[0; MOVES_LEN + 3], PART, &[PART]), none);
+    assert_eq!(ask(&[0], &[0; 15363], PART, &[PART]), none);
     assert_eq!(ask(&[0], &[2048, 0, 1], PART, &[PART]), none);
     assert_eq!(ask(&[0], &[0, 0, 2048], PART, &[PART]), none);
     assert_eq!(ask(&[0], &[0, 129, 1], PART, &[PART]), none);
@@ -219,11 +235,11 @@ fn numbers_that_are_no_tables() {
 #[test]
 fn questions_that_are_refused() {
     let tables = Tables::of(&HALL).unwrap();
-    let longest = [PART; CHAIN_MAX];
+    let longest = [PART; 1024];
     assert_eq!(tables.ask(PART, &longest), Ok(true));
-    let longer = [PART; CHAIN_MAX + 1];
+    let longer = [PART; 1025];
     assert_eq!(tables.ask(PART, &longer), refused(Cause::Chain, 0));
-    assert_eq!(tables.ask(role(4), &[PART]), refused(Cause::Role, 0));
+    assert_eq!(tables.ask(UNKNOWN, &[PART]), refused(Cause::Role, 0));
     assert_eq!(tables.ask(u8::MAX, &[]), refused(Cause::Chain, 0));
     assert_eq!(tables.ask(PART, &[PART, u8::MAX]), refused(Cause::Role, 0));
 }
@@ -233,7 +249,7 @@ fn refused_question_leaves_the_lent_tables() {
     let (mut heads, mut moves) = ([UNTOUCHED; 4], [UNTOUCHED; 54]);
     let answer = derived(&HALL, &mut heads, &mut moves, DUE, &[]);
     assert_eq!(answer, refused(Cause::Chain, 0));
-    let answer = derived(&HALL, &mut heads, &mut moves, role(4), &[PART]);
+    let answer = derived(&HALL, &mut heads, &mut moves, UNKNOWN, &[PART]);
     assert_eq!(answer, refused(Cause::Role, 0));
     let answer = derived(&HALL, &mut heads[..3], &mut moves, DUE, &[]);
     assert_eq!(answer, refused(Cause::Short, 0));
@@ -242,8 +258,7 @@ fn refused_question_leaves_the_lent_tables() {
         derived(&HALL, &mut heads, &mut moves, DUE, &[DUE]),
         Ok(true)
     );
-    let tables = Tables::of(&HALL).unwrap();
-    assert_eq!((&heads[..], &moves[..]), (tables.heads(), tables.moves()));
+    assert_eq!((heads, moves), ([0, 2, 6, 8], HALL_MOVES));
 }
 
 #[test]
@@ -267,19 +282,4 @@ fn several_threads_ask_at_once() {
             scope.spawn(|| assert_eq!(tables.ask(DUE, &[PART, SITS, LET]), Ok(true)));
         }
     });
-}
-
-#[test]
-fn refusals_in_words() {
-    let words = |cause, value| Refusal { cause, value }.to_string();
-    assert_eq!(
-        words(Cause::Mark, 0),
-        "refused 2: the book does not begin with the mark RLB"
-    );
-    assert_eq!(
-        words(Cause::NoOrder, 1),
-        "refused 8: no regular order; rule 1 ends the shortest front part without one"
-    );
-    let numbers = Cause::ALL.map(Cause::number);
-    assert!(numbers.into_iter().eq(1..=14));
 }

@@ -1,0 +1,471 @@
+/*
+ * Tries the header and the archive: every constant, word and macro against what is written out
+ * here, every function on input that tells its parameters apart, accepted and refused, and what the
+ * example prints. Arguments: the header's file and the example's program. Ends in one line with the
+ * number of checks; the exit status is 1 where one fails.
+ */
+#define _POSIX_C_SOURCE 200809L
+#include <inttypes.h>
+#include <stdio.h>
+#include <stdlib.h>
+#include <string.h>
+
+#include "rabbitsteel.h"
+
+/* The functions with the types that the archive has. Another type in the header is an error here. */
+static uint64_t (*const call_read)(const uint8_t *, size_t, uint64_t *,
+                                   uint64_t *) = rabbitsteel_read;
+static uint64_t (*const call_order)(const uint8_t *, size_t, uint64_t *,
+                                    uint64_t *) = rabbitsteel_order;
+static uint64_t (*const call_build)(const uint8_t *, size_t, uint16_t *, size_t, uint16_t *, size_t,
+                                    uint64_t *, uint64_t *) = rabbitsteel_build;
+static uint64_t (*const call_ask)(const uint16_t *, size_t, const uint16_t *, size_t, uint8_t,
+                                  const uint8_t *, size_t, uint64_t *) = rabbitsteel_ask;
+static uint64_t (*const call_derived)(const uint8_t *, size_t, uint16_t *, size_t, uint16_t *,
+                                      size_t, uint8_t, const uint8_t *, size_t,
+                                      uint64_t *) = rabbitsteel_derived;
+static const char *(*const call_words)(uint64_t) = rabbitsteel_words;
+
+/* The same as they stand in the header: two parameters of one type are told apart by name alone. */
+static const char *const prototypes[] = {
+    "uint64_t rabbitsteel_read(const uint8_t *book, size_t book_len, uint64_t *first, uint64_t *second);",
+    "uint64_t rabbitsteel_order(const uint8_t *book, size_t book_len, uint64_t *first, uint64_t *second);",
+    "uint64_t rabbitsteel_build(const uint8_t *book, size_t book_len, uint16_t *heads, size_t heads_len, "
+    "uint16_t *moves, size_t moves_len, uint64_t *first, uint64_t *second);",
+    "uint64_t rabbitsteel_ask(const uint16_t *heads, size_t heads_len, const uint16_t *moves, "
+    "size_t moves_len, uint8_t role, const uint8_t *chain, size_t chain_len, uint64_t *answer);",
+    "uint64_t rabbitsteel_derived(const uint8_t *book, size_t book_len, uint16_t *heads, "
+    "size_t heads_len, uint16_t *moves, size_t moves_len, uint8_t role, "
+    "const uint8_t *chain, size_t chain_len, uint64_t *answer);",
+};
+
+static unsigned checks, failures;
+
+static void check(int holds, const char *what, int line)
+{
+    checks++;
+    if (holds)
+        return;
+    failures++;
+    fprintf(stderr, "test.c:%d: %s\n", line, what);
+}
+
+static void check_number(uint64_t given, uint64_t owed, const char *what, int line)
+{
+    check(given == owed, what, line);
+    if (given != owed)
+        fprintf(stderr, "  it is %" PRIu64 ", not %" PRIu64 "\n", given, owed);
+}
+
+static void check_text(const char *given, const char *owed, const char *what, int line)
+{
+    check(strcmp(given, owed) == 0, what, line);
+    if (strcmp(given, owed) != 0)
+        fprintf(stderr, "  it is: %s\n  not: %s\n", given, owed);
+}
+
+#define CHECK(condition) check(condition, #condition, __LINE__)
+#define NUMBER(given, owed) check_number(given, owed, #given, __LINE__)
+#define TEXT(given, owed) check_text(given, owed, #given, __LINE__)
+
+/* The header's constants. */
+static void try_constants(void)
+{
+    NUMBER(RABBITSTEEL_BOOK_MAX, 2568);
+    NUMBER(RABBITSTEEL_NAMES_MAX, 64);
+    NUMBER(RABBITSTEEL_RULES_MAX, 256);
+    NUMBER(RABBITSTEEL_STATES_MAX, 2048);
+    NUMBER(RABBITSTEEL_MOVES_MAX, 5120);
+    NUMBER(RABBITSTEEL_MOVES_LEN, 15360);
+    NUMBER(RABBITSTEEL_CHAIN_MAX, 1024);
+    NUMBER(RABBITSTEEL_SILENT, 128);
+    NUMBER(RABBITSTEEL_ACCEPTED, 0);
+    NUMBER(RABBITSTEEL_CAUSE_SIZE, 1);
+    NUMBER(RABBITSTEEL_CAUSE_MARK, 2);
+    NUMBER(RABBITSTEEL_CAUSE_VERSION, 3);
+    NUMBER(RABBITSTEEL_CAUSE_RANGE, 4);
+    NUMBER(RABBITSTEEL_CAUSE_MALFORMED, 5);
+    NUMBER(RABBITSTEEL_CAUSE_UNDECLARED, 6);
+    NUMBER(RABBITSTEEL_CAUSE_REPEATED, 7);
+    NUMBER(RABBITSTEEL_CAUSE_NO_ORDER, 8);
+    NUMBER(RABBITSTEEL_CAUSE_STATES, 9);
+    NUMBER(RABBITSTEEL_CAUSE_MOVES, 10);
+    NUMBER(RABBITSTEEL_CAUSE_SHORT, 11);
+    NUMBER(RABBITSTEEL_CAUSE_TABLES, 12);
+    NUMBER(RABBITSTEEL_CAUSE_CHAIN, 13);
+    NUMBER(RABBITSTEEL_CAUSE_ROLE, 14);
+}
+
+/* Role bytes of all names, there and back. */
+static void try_role_bytes(void)
+{
+    NUMBER(sizeof RABBITSTEEL_ROLE(63), 1);
+    NUMBER(sizeof RABBITSTEEL_INVERSE(127), 1);
+    NUMBER(sizeof RABBITSTEEL_NAME(127), 1);
+    for (unsigned name = 0; name < 64; name++) {
+        NUMBER(RABBITSTEEL_ROLE(name), name + name);
+        NUMBER(RABBITSTEEL_INVERSE(name + name), name + name + 1);
+        NUMBER(RABBITSTEEL_INVERSE(name + name + 1), name + name);
+        NUMBER(RABBITSTEEL_NAME(name + name), name);
+        NUMBER(RABBITSTEEL_NAME(name + name + 1), name);
+    }
+}
+
+static void try_words(void)
+{
+    TEXT(call_words(0), "accepted");
+    TEXT(call_words(1), "the book has fewer than 8 or more than 2,568 bytes");
+    TEXT(call_words(2), "the book does not begin with the mark RLB");
+    TEXT(call_words(3), "the version is not 1");
+    TEXT(call_words(4), "the names are not 1 to 64, or the rules over 256");
+    TEXT(call_words(5),
+         "a left side of 0 or over 8 roles, a rule cut short, or bytes after the last rule");
+    TEXT(call_words(6), "a role of a name that the book does not have");
+    TEXT(call_words(7), "a rule equals an earlier rule or its mirror");
+    TEXT(call_words(8), "no regular order");
+    TEXT(call_words(9), "the tables have over 2,048 states");
+    TEXT(call_words(10), "the tables have over 5,120 moves");
+    TEXT(call_words(11), "heads or moves lent too short");
+    TEXT(call_words(12), "the tables are out of bounds");
+    TEXT(call_words(13), "the chain has 0 or over 1,024 links");
+    TEXT(call_words(14), "a role of a name that the tables do not have");
+    TEXT(call_words(15), "no cause has this number");
+    TEXT(call_words(UINT64_MAX), "no cause has this number");
+}
+
+/* Four names and three rules: part part to part; part sits to sits; sits let to due. */
+static const uint8_t hall[22] = {'R', 'L', 'B', 1, 0, 4, 3, 0, 0, 2, 0, 0, 2, 2, 0, 2, 6, 2, 2, 4};
+
+/* Its tables. */
+static const uint16_t hall_heads[4] = {0, 2, 6, 8};
+static const uint16_t hall_moves[54] = {
+    0,  0, 1,  1,  128, 0,  2,  2, 3,  2,  128, 4,  4,  0,   5,  5,  128, 4,
+    5,  128, 2, 6,  4,  7,  8,  6, 9,  8,  128, 10, 10, 2,   11, 10, 128, 12,
+    12, 0, 13, 13, 128, 12, 13, 128, 10, 11, 128, 14, 14, 4, 15, 15, 128, 9,
+};
+
+/* What stands in memory before a call, and around what is lent. No call stores it. */
+#define UNSET UINT64_C(0xA5A5A5A5A5A5A5A5)
+#define NOISE(place) ((uint16_t)(0x8000u + (place)))
+
+enum { FENCE = 8, HEADS = 70, MOVES = 15366 };
+
+/* Numbers and tables lent to a call, each with a fence before and after it. */
+static uint64_t numbers[5];
+static uint16_t heads[FENCE + HEADS + FENCE];
+static uint16_t moves[FENCE + MOVES + FENCE];
+static uint64_t *const first = numbers + 1;
+static uint64_t *const second = numbers + 3;
+static uint16_t *const lent_heads = heads + FENCE;
+static uint16_t *const lent_moves = moves + FENCE;
+
+static void clear(void)
+{
+    for (size_t i = 0; i < 5; i++)
+        numbers[i] = UNSET;
+    for (size_t i = 0; i < sizeof heads / sizeof heads[0]; i++)
+        heads[i] = NOISE(i);
+    for (size_t i = 0; i < sizeof moves / sizeof moves[0]; i++)
+        moves[i] = NOISE(i);
+}
+
+/* Whether memory holds these numbers where it was lent, and what it held everywhere else. */
+static int holds(const uint16_t *memory, size_t length, const uint16_t *written, size_t count)
+{
+    for (size_t i = 0; i < length; i++) {
+        int inside = i >= FENCE && i - FENCE < count;
+        if (memory[i] != (inside ? written[i - FENCE] : NOISE(i)))
+            return 0;
+    }
+    return 1;
+}
+
+/* Whether the first so many heads and numbers of moves are the hall book's, and all else is kept. */
+static int tables_hold(size_t heads_count, size_t moves_count)
+{
+    return holds(heads, sizeof heads / sizeof heads[0], hall_heads, heads_count) &&
+           holds(moves, sizeof moves / sizeof moves[0], hall_moves, moves_count);
+}
+
+/* What a call returned and stored; nothing around the stored numbers is touched. */
+static void told(uint64_t cause, uint64_t owed_cause, uint64_t owed_first, uint64_t owed_second,
+                 int line)
+{
+    check_number(cause, owed_cause, "the cause", line);
+    check_number(*first, owed_first, "the first number", line);
+    check_number(*second, owed_second, "the second number", line);
+    check(numbers[0] == UNSET && numbers[2] == UNSET && numbers[4] == UNSET,
+          "a number beside the stored ones is changed", line);
+}
+
+struct refused_book {
+    const uint8_t *bytes;
+    size_t length;
+    uint64_t cause, value;
+    int line;
+};
+
+/* A book that all three calls refuse alike, or only the later ones: `passes` counts those before. */
+static void try_refused(const struct refused_book *book, unsigned passes, uint64_t names,
+                        uint64_t rules)
+{
+    const uint8_t *bytes = book->bytes;
+    uint64_t cause = book->cause, value = book->value;
+
+    clear();
+    if (passes > 0)
+        told(call_read(bytes, book->length, first, second), 0, names, rules, book->line);
+    else
+        told(call_read(bytes, book->length, first, second), cause, value, 0, book->line);
+    clear();
+    if (passes > 1)
+        told(call_order(bytes, book->length, first, second), 0, names, rules, book->line);
+    else
+        told(call_order(bytes, book->length, first, second), cause, value, 0, book->line);
+    clear();
+    told(call_build(bytes, book->length, lent_heads, 64, lent_moves, 15360, first, second), cause,
+         value, 0, book->line);
+    check(tables_hold(0, 0), "a refused build changes the tables", book->line);
+    clear();
+    told(call_derived(bytes, book->length, lent_heads, 64, lent_moves, 15360, 0, bytes, 1, first),
+         cause, value, UNSET, book->line);
+    check(tables_hold(0, 0), "a refused build and question changes the tables", book->line);
+}
+
+#define REFUSED(bytes, length, cause, value, passes, names, rules)                                 \
+    try_refused(&(struct refused_book){bytes, length, cause, value, __LINE__}, passes, names, rules)
+
+/* A copy of the hall book with one byte changed. */
+static const uint8_t *hall_with(size_t place, uint8_t byte)
+{
+    static uint8_t changed[sizeof hall];
+
+    memcpy(changed, hall, sizeof hall);
+    changed[place] = byte;
+    return changed;
+}
+
+/* Books refused by causes 1 to 8, with every value that a cause can have beside it. */
+static void try_refused_books(void)
+{
+    static const uint8_t longer[2569] = {'R', 'L', 'B'};
+    static const uint8_t repeated[] = {'R', 'L', 'B', 1, 0, 1, 2, 0, 0, 1, 1, 1, 1, 0};
+    static const uint8_t circle[] = {'R', 'L', 'B', 1, 0, 2, 2, 0, 0, 1, 2, 2, 1, 0};
+    static const uint8_t itself[] = {'R', 'L', 'B', 1, 0, 3, 1, 0, 4, 1, 4};
+
+    REFUSED(hall, 0, 1, 0, 0, 0, 0);
+    REFUSED(hall, 7, 1, 0, 0, 0, 0);
+    REFUSED(longer, 2569, 1, 0, 0, 0, 0);
+    REFUSED(longer, 2568, 3, 0, 0, 0, 0);
+    REFUSED(hall_with(1, 'l'), 20, 2, 0, 0, 0, 0);
+    REFUSED(hall_with(3, 2), 20, 3, 0, 0, 0, 0);
+    REFUSED(hall_with(5, 65), 20, 4, 0, 0, 0, 0);
+    REFUSED(hall_with(7, 1), 20, 4, 0, 0, 0, 0);
+    REFUSED(hall_with(9, 9), 20, 5, 0, 0, 0, 0);
+    REFUSED(hall_with(13, 0), 20, 5, 1, 0, 0, 0);
+    REFUSED(hall, 19, 5, 2, 0, 0, 0);
+    REFUSED(hall, 21, 5, 3, 0, 0, 0);
+    REFUSED(hall_with(12, 8), 20, 6, 1, 0, 0, 0);
+    REFUSED(hall_with(19, 255), 20, 6, 2, 0, 0, 0);
+    REFUSED(repeated, sizeof repeated, 7, 1, 0, 0, 0);
+    REFUSED(circle, sizeof circle, 8, 1, 1, 2, 2);
+    REFUSED(itself, sizeof itself, 8, 0, 1, 3, 1);
+}
+
+/* Tables of too many states: each name has eight copies of the one before it. No book is refused by
+   cause 10: 2,048 states have at most 5,120 moves. */
+static void try_large_book(void)
+{
+    uint8_t large[8 + 4 * 10] = {'R', 'L', 'B', 1, 0, 5, 4, 0};
+
+    for (uint8_t rule = 0; rule < 4; rule++) {
+        large[8 + 10 * rule] = (uint8_t)(2 * rule + 2);
+        large[9 + 10 * rule] = 8;
+        memset(large + 10 + 10 * rule, 2 * rule, 8);
+    }
+    REFUSED(large, sizeof large, 9, 0, 2, 5, 4);
+}
+
+/* The hall book, in memory just long enough, longer, and one number too short. */
+static void try_build(void)
+{
+    static const size_t short_lengths[][2] = {{3, 54}, {4, 53}, {0, 15360}, {64, 0}, {54, 4}, {3, 53}};
+
+    clear();
+    told(call_read(hall, 20, first, second), 0, 4, 3, __LINE__);
+    clear();
+    told(call_order(hall, 20, first, second), 0, 4, 3, __LINE__);
+    clear();
+    told(call_build(hall, 20, lent_heads, 4, lent_moves, 54, first, second), 0, 16, 18, __LINE__);
+    CHECK(tables_hold(4, 54));
+    clear();
+    told(call_build(hall, 20, lent_heads, 70, lent_moves, 15366, first, second), 0, 16, 18,
+         __LINE__);
+    CHECK(tables_hold(4, 54));
+    for (size_t i = 0; i < sizeof short_lengths / sizeof short_lengths[0]; i++) {
+        size_t heads_len = short_lengths[i][0], moves_len = short_lengths[i][1];
+
+        clear();
+        told(call_build(hall, 20, lent_heads, heads_len, lent_moves, moves_len, first, second), 11,
+             0, 0, __LINE__);
+        CHECK(tables_hold(0, 0));
+        clear();
+        told(call_derived(hall, 20, lent_heads, heads_len, lent_moves, moves_len, 6, hall, 1,
+                          first),
+             11, 0, UNSET, __LINE__);
+        CHECK(tables_hold(0, 0));
+    }
+}
+
+struct question {
+    uint8_t role;
+    const uint8_t *chain;
+    size_t length;
+    uint64_t cause, answer;
+};
+
+/* Questions about the hall book, put to its tables and to the call that builds and asks. */
+static void try_questions(void)
+{
+    static const uint8_t parts[1025];
+    const struct question asked[] = {
+        {6, (const uint8_t[]){0, 0, 2, 4}, 4, 0, 1}, {6, (const uint8_t[]){2, 0, 4}, 3, 0, 0},
+        {7, (const uint8_t[]){5, 3, 1}, 3, 0, 1},    {6, (const uint8_t[]){8}, 0, 13, 0},
+        {6, (const uint8_t[]){8}, 1, 14, 0},         {6, (const uint8_t[]){6}, 1, 0, 1},
+        {2, (const uint8_t[]){0}, 1, 0, 0},          {0, parts, 1024, 0, 1},
+        {0, parts, 1025, 13, 0},                     {8, parts, 1, 14, 0},
+        {8, parts, 0, 13, 0},                        {0, (const uint8_t[]){0, 255}, 2, 14, 0},
+        {0, (const uint8_t[]){0, 255}, 1, 0, 1},
+    };
+
+    for (size_t i = 0; i < sizeof asked / sizeof asked[0]; i++) {
+        const struct question *q = &asked[i];
+        size_t built = q->cause == 0;
+
+        clear();
+        told(call_ask(hall_heads, 4, hall_moves, 54, q->role, q->chain, q->length, first), q->cause,
+             q->answer, UNSET, __LINE__);
+        clear();
+        told(call_derived(hall, 20, lent_heads, 5, lent_moves, 57, q->role, q->chain, q->length,
+                          first),
+             q->cause, q->answer, UNSET, __LINE__);
+        check(tables_hold(4 * built, 54 * built), "the tables of a question", __LINE__);
+    }
+}
+
+/* A question to tables that no book gave: the cause and the answer. */
+static void try_ask(const uint16_t *asked_heads, size_t heads_len, const uint16_t *asked_moves,
+                    size_t moves_len, uint64_t cause, uint64_t answer, int line)
+{
+    static const uint8_t chain[1] = {0};
+
+    clear();
+    told(call_ask(asked_heads, heads_len, asked_moves, moves_len, 0, chain, 1, first), cause, answer,
+         UNSET, line);
+}
+
+#define ASK(heads, heads_len, moves, moves_len, cause, answer)                                     \
+    try_ask(heads, heads_len, moves, moves_len, cause, answer, __LINE__)
+
+/* Tables at and past the limits of cause 12. */
+static void try_tables(void)
+{
+    static const uint16_t none[15363];
+    static const uint16_t last[3] = {2046, 0, 2047};
+    static const uint16_t over[3] = {2048, 129, 2047};
+    static const uint16_t step[3] = {0, 0, 1};
+    static const uint16_t label[3] = {0, 129, 1};
+
+    ASK(last, 1, last, 3, 0, 1);
+    ASK(last + 2, 1, last, 3, 12, 0);
+    ASK(none, 0, step, 3, 12, 0);
+    ASK(none, 64, step, 3, 0, 1);
+    ASK(none, 65, step, 3, 12, 0);
+    ASK(none, 1, step, 0, 0, 0);
+    ASK(none, 1, step, 1, 12, 0);
+    ASK(none, 1, step, 2, 12, 0);
+    ASK(none, 1, none, 15360, 0, 0);
+    ASK(none, 1, none, 15363, 12, 0);
+    ASK(none, 1, over, 3, 12, 0);
+    ASK(none, 1, label, 3, 12, 0);
+}
+
+/* A file's text, or what a program prints, with every run of white space as one space. */
+static char *text_of(FILE *file)
+{
+    size_t length = 0, room = 1 << 16;
+    char *text = malloc(room);
+    int byte;
+
+    while (file && text && length + 2 < room && (byte = fgetc(file)) != EOF) {
+        int space = byte == ' ' || byte == '\n' || byte == '\t';
+
+        if (!space)
+            text[length++] = (char)byte;
+        else if (length > 0 && text[length - 1] != ' ')
+            text[length++] = ' ';
+    }
+    if (!text)
+        exit(2);
+    text[length] = 0;
+    return text;
+}
+
+static size_t times(const char *text, const char *part)
+{
+    size_t count = 0;
+
+    for (; (text = strstr(text, part)); text += strlen(part))
+        count++;
+    return count;
+}
+
+/* The header's text: each prototype as written out above, and no constant or function beside those
+   that are tried here. */
+static void try_header(const char *path)
+{
+    FILE *file = fopen(path, "r");
+    char *text = text_of(file);
+
+    for (size_t i = 0; i < sizeof prototypes / sizeof prototypes[0]; i++)
+        check(times(text, prototypes[i]) == 1, prototypes[i], __LINE__);
+    NUMBER(times(text, "uint64_t rabbitsteel_"), 5);
+    NUMBER(times(text, "static inline"), 1);
+    NUMBER(times(text, "#define "), 12);
+    NUMBER(times(text, " = "), 15);
+    if (file)
+        fclose(file);
+    free(text);
+}
+
+/* What the example prints. */
+static void try_example(const char *path)
+{
+    FILE *program = popen(path, "r");
+    char *text = text_of(program);
+
+    TEXT(text, "book 16 18 0 yes 1 no 2 yes 3 refused 13 4 refused 14 book refused 8 1 "
+               "refused 8: no regular order; rule 1 ");
+    CHECK(program && pclose(program) == 0);
+    free(text);
+}
+
+int main(int argc, char **argv)
+{
+    if (argc != 3) {
+        fprintf(stderr, "usage: test HEADER EXAMPLE\n");
+        return 2;
+    }
+    try_constants();
+    try_role_bytes();
+    try_words();
+    try_refused_books();
+    try_large_book();
+    try_build();
+    try_questions();
+    try_tables();
+    try_header(argv[1]);
+    try_example(argv[2]);
+    printf("C: %u checks, %u failed\n", checks, failures);
+    return failures == 0 ? 0 : 1;
+}

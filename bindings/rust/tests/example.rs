@@ -1,0 +1,25 @@
+//! What the example prints.
+
+use std::process::Command;
+
+const LINES: &str = "\
+book 16 18
+0 yes
+1 no
+2 yes
+3 refused 13
+4 refused 14
+book refused 8 1
+refused 8: no regular order; rule 1 ends the shortest front part without one
+";
+
+#[test]
+fn hall_prints_the_worked_example() {
+    let run = Command::new(env!("CARGO"))
+        .args(["run", "--quiet", "--example", "hall"])
+        .current_dir(env!("CARGO_MANIFEST_DIR"))
+        .output()
+        .expect("cargo runs");
+    assert_eq!(String::from_utf8_lossy(&run.stdout), LINES);
+    assert!(run.status.success());
+}
