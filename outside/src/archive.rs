@@ -31,6 +31,13 @@ pub struct Reply {
     pub second: u64,
 }
 
+impl Reply {
+    /// The whole reply to a question that is answered.
+    pub fn answered(yes: bool) -> Reply {
+        Ok(yes).into()
+    }
+}
+
 impl From<Refusal> for Reply {
     fn from(refusal: Refusal) -> Reply {
         Reply {

@@ -7,6 +7,7 @@ pub mod books;
 pub mod cases;
 pub mod chains;
 pub mod plain;
+pub mod programs;
 pub mod random;
 #[cfg(feature = "archive")]
 pub mod trial;

@@ -1,5 +1,5 @@
 //! A trial puts the same inputs to the archive and to the plain engine, counts them, and stops at the first
-//! difference with the seed and the input.
+//! difference with the seed and the input. A trial that has tried too little fails as well.
 #![forbid(unsafe_code)]
 
 use crate::archive::{self, Reply};
@@ -23,11 +23,23 @@ struct Tally {
     refused: BTreeMap<u64, u64>,
 }
 
+/// What a trial has to meet: a kind of reply to a call, or something counted.
+#[derive(Clone, Copy, Debug)]
+pub enum Met {
+    Accepted(&'static str),
+    Yes(&'static str),
+    No(&'static str),
+    Refused(&'static str, u64),
+    Counted(&'static str),
+}
+
 pub struct Trial {
     name: &'static str,
     first_seed: u64,
     seed: u64,
     cases: u64,
+    /// How many replies and checks were compared.
+    compared: u64,
     tallies: BTreeMap<&'static str, Tally>,
     counts: BTreeMap<&'static str, u64>,
     largest: BTreeMap<&'static str, u64>,
@@ -60,14 +72,22 @@ fn rounds() -> f64 {
 }
 
 /// Tries so many cases, at least one. Case i has the seed of the run plus i, so that a run with a case's seed starts
-/// with that case.
-pub fn run(name: &'static str, cases: u64, case: impl FnMut(&mut Trial, &mut Random)) {
-    let cases = (cases as f64 * rounds()).ceil().max(1.0) as u64;
-    run_exactly(name, cases, case);
+/// with that case. What has to be met is demanded of the usual amount and of more.
+pub fn run(name: &'static str, cases: u64, met: &[Met], case: impl FnMut(&mut Trial, &mut Random)) {
+    let rounds = rounds();
+    let met = if rounds < 1.0 { &[] } else { met };
+    let cases = (cases as f64 * rounds).ceil().max(1.0) as u64;
+    run_exactly(name, cases, met, case);
 }
 
-/// As [`run`], whatever amount the environment asks for.
-pub fn run_exactly(name: &'static str, cases: u64, mut case: impl FnMut(&mut Trial, &mut Random)) {
+/// As [`run`], whatever amount the environment asks for. Each case compares something.
+pub fn run_exactly(
+    name: &'static str,
+    cases: u64,
+    met: &[Met],
+    mut case: impl FnMut(&mut Trial, &mut Random),
+) {
+    assert!(cases > 0, "{name}: no case");
     let first_seed = setting(SEED).unwrap_or(1);
     let mut noise = Random::new(first_seed);
     let mut trial = Trial {
@@ -75,6 +95,7 @@ pub fn run_exactly(name: &'static str, cases: u64, mut case: impl FnMut(&mut Tri
         first_seed,
         seed: first_seed,
         cases,
+        compared: 0,
         tallies: BTreeMap::new(),
         counts: BTreeMap::new(),
         largest: BTreeMap::new(),
@@ -83,9 +104,16 @@ pub fn run_exactly(name: &'static str, cases: u64, mut case: impl FnMut(&mut Tri
     for number in 0..cases {
         trial.seed = first_seed.wrapping_add(number);
         let mut random = Random::new(trial.seed);
+        let before = trial.compared;
         case(&mut trial, &mut random);
+        if trial.compared == before {
+            trial.stop("a case compares nothing", &[]);
+        }
     }
     trial.print();
+    for met in met {
+        assert!(trial.times(*met) > 0, "{name}: it never met {met:?}");
+    }
 }
 
 impl Trial {
@@ -230,13 +258,15 @@ impl Trial {
     }
 
     /// Stops the trial where something else than a comparison of the two engines fails.
-    pub fn check(&self, holds: bool, what: &str, input: &[(&str, String)]) {
+    pub fn check(&mut self, holds: bool, what: &str, input: &[(&str, String)]) {
+        self.compared += 1;
         if !holds {
             self.stop(what, input);
         }
     }
 
     fn tally(&mut self, call: &'static str, reply: Reply) -> Reply {
+        self.compared += 1;
         let tally = self.tallies.entry(call).or_default();
         tally.tried += 1;
         if reply.cause == 0 {
@@ -246,6 +276,18 @@ impl Trial {
             *tally.refused.entry(reply.cause).or_default() += 1;
         }
         reply
+    }
+
+    /// How often something was met.
+    fn times(&self, met: Met) -> u64 {
+        let tally = |call| self.tallies.get(call).cloned().unwrap_or_default();
+        match met {
+            Met::Accepted(call) => tally(call).accepted,
+            Met::Yes(call) => tally(call).yes,
+            Met::No(call) => tally(call).accepted - tally(call).yes,
+            Met::Refused(call, cause) => *tally(call).refused.get(&cause).unwrap_or(&0),
+            Met::Counted(what) => *self.counts.get(what).unwrap_or(&0),
+        }
     }
 
     fn fail(&self, call: &str, given: Reply, owed: Reply, input: &[(&str, String)]) -> ! {
@@ -270,8 +312,8 @@ impl Trial {
 
     fn print(&self) {
         println!(
-            "{}: {} cases from seed {:#018x}",
-            self.name, self.cases, self.first_seed
+            "{}: {} cases from seed {:#018x}, {} comparisons",
+            self.name, self.cases, self.first_seed, self.compared
         );
         for (call, tally) in &self.tallies {
             let accepted = match *call {

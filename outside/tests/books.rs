@@ -6,25 +6,40 @@ use outside::trial::run;
 
 #[test]
 fn valid_books() {
-    run("valid_books", 1500, books::valid);
+    run("valid_books", 1500, books::VALID, books::valid);
 }
 
 #[test]
 fn near_state_limit() {
-    run("near_state_limit", 400, books::near_limit);
+    run(
+        "near_state_limit",
+        400,
+        books::NEAR_LIMIT,
+        books::near_limit,
+    );
 }
 
 #[test]
 fn over_state_limit() {
-    run("over_state_limit", 500, books::over_limit);
+    run(
+        "over_state_limit",
+        500,
+        books::OVER_LIMIT,
+        books::over_limit,
+    );
 }
 
 #[test]
 fn without_order() {
-    run("without_order", 5000, books::without_order);
+    run(
+        "without_order",
+        5000,
+        books::WITHOUT_ORDER,
+        books::without_order,
+    );
 }
 
 #[test]
 fn any_rules() {
-    run("any_rules", 10_000, books::any_rules);
+    run("any_rules", 10_000, books::ANY_RULES, books::any_rules);
 }

@@ -22,7 +22,7 @@ fn middle(random: &mut Random) -> Vec<u8> {
 
 #[test]
 fn every_byte_of_hall() {
-    run_exactly("every_byte_of_hall", 1, |trial, random| {
+    run_exactly("every_byte_of_hall", 1, damage::BYTES, |trial, random| {
         for place in 0..HALL.len() {
             damage::byte(trial, random, HALL, place, 0..=255);
         }
@@ -31,7 +31,7 @@ fn every_byte_of_hall() {
 
 #[test]
 fn every_byte_of_middle() {
-    run("every_byte_of_middle", 2, |trial, random| {
+    run("every_byte_of_middle", 2, damage::BYTES, |trial, random| {
         let book = middle(random);
         for place in 0..book.len() {
             damage::byte(trial, random, &book, place, 0..=255);
@@ -41,20 +41,25 @@ fn every_byte_of_middle() {
 
 #[test]
 fn every_byte_of_largest() {
-    run("every_byte_of_largest", 2, |trial, random| {
-        for book in [longest(random), fullest(random)] {
-            for place in 0..book.len() {
-                let value = random.byte();
-                let values = [value, value ^ 1, random.byte(), book[place] ^ 1];
-                damage::byte(trial, random, &book, place, values.into_iter());
+    run(
+        "every_byte_of_largest",
+        2,
+        damage::BYTES,
+        |trial, random| {
+            for book in [longest(random), fullest(random)] {
+                for place in 0..book.len() {
+                    let value = random.byte();
+                    let values = [value, value ^ 1, random.byte(), book[place] ^ 1];
+                    damage::byte(trial, random, &book, place, values.into_iter());
+                }
             }
-        }
-    });
+        },
+    );
 }
 
 #[test]
 fn front_parts() {
-    run("front_parts", 10, |trial, random| {
+    run("front_parts", 10, damage::FRONT_PARTS, |trial, random| {
         damage::front_parts(trial, random, HALL);
         for book in [middle(random), longest(random), fullest(random)] {
             damage::front_parts(trial, random, &book);
@@ -64,7 +69,7 @@ fn front_parts() {
 
 #[test]
 fn every_length() {
-    run("every_length", 5, |trial, random| {
+    run("every_length", 5, damage::LENGTHS, |trial, random| {
         for length in 0..=2700 {
             damage::length(trial, random, length);
         }

@@ -6,7 +6,7 @@ use outside::trial::{run, run_exactly};
 
 #[test]
 fn every_pair() {
-    run_exactly("every_pair", 1, |trial, _| {
+    run_exactly("every_pair", 1, lent::PAIRS, |trial, _| {
         lent::every_pair(trial, HALL);
         lent::every_pair(trial, &encode(1, &[] as &[(u8, Vec<u8>)]));
         lent::every_pair(trial, &encode(64, &[(0, [2, 3]), (126, [126, 126])]));
@@ -15,7 +15,7 @@ fn every_pair() {
 
 #[test]
 fn every_length() {
-    run("every_length", 10, |trial, random| {
+    run("every_length", 10, lent::LENGTHS, |trial, random| {
         let states = 2 * random.between(10, 400) as u64;
         let book = lent::sized(random, states);
         lent::every_length(trial, &book);
@@ -24,8 +24,13 @@ fn every_length() {
 
 #[test]
 fn every_length_of_largest() {
-    run("every_length_of_largest", 1, |trial, random| {
-        let book = lent::sized(random, 2048);
-        lent::every_length(trial, &book);
-    });
+    run(
+        "every_length_of_largest",
+        1,
+        lent::LENGTHS,
+        |trial, random| {
+            let book = lent::sized(random, 2048);
+            lent::every_length(trial, &book);
+        },
+    );
 }

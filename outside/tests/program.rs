@@ -1,177 +1,268 @@
-//! The program `engine` beside `plain_engine`: the same lines for the same book and questions. It is looked for where
-//! RABBITSTEEL_ENGINE says, or else at ../target/bin/engine; without it only the worked example is tried.
+//! The program `engine` and `plain_engine` on inputs whose lines are written out here: the worked example, cut and
+//! refused questions, the longest one, questions over many blocks, small pieces, and books that are refused.
 
-use outside::books::{careless, encode, Draft, Style, HALL};
-use outside::chains;
+use outside::books::{encode, longest, HALL};
+use outside::programs::{engine, written, Way};
 use outside::random::Random;
-use outside::trial::{hex, run};
-use std::fs;
-use std::io::Write;
-use std::path::{Path, PathBuf};
-use std::process::{Command, Stdio};
-use std::sync::atomic::{AtomicUsize, Ordering};
+use std::path::PathBuf;
 
 const QUESTIONS: &[u8] =
     b"\x06\x04\0\0\0\x02\x04\x06\x03\0\x02\0\x04\x07\x03\0\x05\x03\x01\x06\0\0\x06\x01\0\x08";
-const LINES: &str = "book 16 18\n0 yes\n1 no\n2 yes\n3 refused 13\n4 refused 14\n";
+const LINES: [&str; 6] = [
+    "book 16 18\n",
+    "0 yes\n",
+    "1 no\n",
+    "2 yes\n",
+    "3 refused 13\n",
+    "4 refused 14\n",
+];
+/// Where each of the questions ends.
+const ENDS: [usize; 5] = [7, 13, 19, 22, 26];
+
+const LONGEST: usize = 65535;
 
 fn plain_engine() -> PathBuf {
     PathBuf::from(env!("CARGO_BIN_EXE_plain_engine"))
 }
 
-fn engine() -> Option<PathBuf> {
-    let usual = || Path::new(env!("CARGO_MANIFEST_DIR")).join("../target/bin/engine");
-    let path = std::env::var_os("RABBITSTEEL_ENGINE").map_or_else(usual, PathBuf::from);
-    let found = path.canonicalize().ok();
-    if found.is_none() {
-        println!("no engine at {}: not compared", path.display());
-    }
-    found
+/// A question's bytes.
+fn question(role: u8, chain: &[u8]) -> Vec<u8> {
+    let links = u16::try_from(chain.len()).unwrap();
+    [&[role][..], &links.to_le_bytes(), chain].concat()
 }
 
-/// What a program writes in a folder with this book, or without one.
-fn written(program: &Path, words: &[&str], book: Option<&[u8]>, questions: &[u8]) -> String {
-    static RUNS: AtomicUsize = AtomicUsize::new(0);
-    let number = RUNS.fetch_add(1, Ordering::Relaxed);
-    let name = format!("rabbitsteel-program-{}-{number}", std::process::id());
-    let folder = std::env::temp_dir().join(name);
-    fs::create_dir_all(&folder).unwrap();
-    let file = folder.join("book.rlb");
-    match book {
-        Some(book) => fs::write(&file, book).unwrap(),
-        None => drop(fs::remove_file(&file)),
+/// Both programs write these lines, from a file and from a pipe.
+fn owed(book: Option<&[u8]>, questions: &[u8], lines: &str) {
+    for program in [plain_engine(), engine()] {
+        for way in [Way::File, Way::Pipe] {
+            let given = written(&program, &[], book, questions, way);
+            assert!(
+                given == lines,
+                "{}, {way:?}: {}",
+                program.display(),
+                difference(&given, lines)
+            );
+        }
     }
-    let mut child = Command::new(program)
-        .args(words)
-        .current_dir(&folder)
-        .stdin(Stdio::piped())
-        .stdout(Stdio::piped())
-        .spawn()
-        .unwrap();
-    // A program that refuses its book may stop before it has read the questions.
-    let mut input = child.stdin.take().unwrap();
-    let questions = questions.to_vec();
-    let writer = std::thread::spawn(move || drop(input.write_all(&questions)));
-    let output = child.wait_with_output().unwrap();
-    writer.join().unwrap();
-    fs::remove_dir_all(&folder).unwrap();
-    String::from_utf8(output.stdout).unwrap()
+}
+
+/// The first lines that differ.
+fn difference(given: &str, owed: &str) -> String {
+    let (mut given, mut owed) = (given.lines(), owed.lines());
+    loop {
+        match (given.next(), owed.next()) {
+            (Some(given), Some(owed)) if given == owed => {}
+            (given, owed) => return format!("it writes {given:?} for {owed:?}"),
+        }
+    }
 }
 
 #[test]
 fn hall() {
-    let programs = [Some(plain_engine()), engine()];
-    for program in programs.into_iter().flatten() {
-        assert_eq!(written(&program, &[], Some(HALL), QUESTIONS), LINES);
-        assert_eq!(
-            written(&program, &[], None, QUESTIONS),
-            "book refused 1 0\n"
-        );
-    }
-    let lines = written(&plain_engine(), &["--index-each"], Some(HALL), QUESTIONS);
-    assert_eq!(lines, LINES);
-}
-
-/// Questions of every kind one after another, at times cut.
-fn questions(random: &mut Random, names: usize) -> Vec<u8> {
-    let mut questions = Vec::new();
-    for _ in 0..random.between(0, 40) {
-        let role = match random.below(20) {
-            0 => random.byte(),
-            _ => random.below(2 * names) as u8,
-        };
-        let links = match random.below(20) {
-            0 => random.pick(&[0, 1023, 1024, 1025, 65535]),
-            _ => chains::links(random),
-        };
-        let mut chain = chains::random(random, names, links);
-        if random.percent(10) && links > 0 {
-            let place = random.below(links);
-            chain[place] = random.byte();
-        }
-        questions.push(role);
-        questions.extend((links as u16).to_le_bytes());
-        questions.extend(chain);
-    }
-    if random.percent(50) && !questions.is_empty() {
-        questions.truncate(random.below(questions.len()));
-    }
-    questions
+    owed(Some(HALL), QUESTIONS, &LINES.concat());
+    let each = written(
+        &plain_engine(),
+        &["--index-each"],
+        Some(HALL),
+        QUESTIONS,
+        Way::File,
+    );
+    assert_eq!(each, LINES.concat());
 }
 
 #[test]
-fn streams() {
-    let Some(engine) = engine() else { return };
-    run("streams", 200, |trial, random| {
-        let (names, book) = match random.below(3) {
-            0 => {
-                let (names, rules) = careless(random);
-                (names, encode(names as u8, &rules))
-            }
-            _ => {
-                let style = Style::draw(random);
-                (style.names, Draft::draw(random, &style).bytes())
-            }
-        };
-        let questions = questions(random, names);
-        let given = written(&engine, &[], Some(&book), &questions);
-        let owed = written(&plain_engine(), &[], Some(&book), &questions);
-        let input = [
-            ("book", hex(&book)),
-            ("questions", hex(&questions)),
-            ("engine", given.clone()),
-            ("plain_engine", owed.clone()),
-        ];
-        trial.check(given == owed, "the programs differ", &input);
-        trial.count("lines", owed.lines().count() as u64);
-        trial.count("streams that end in cut", owed.ends_with("cut\n").into());
-        trial.count("books refused", owed.starts_with("book refused").into());
-    });
+fn no_book() {
+    owed(None, QUESTIONS, "book refused 1 0\n");
+    owed(Some(b""), QUESTIONS, "book refused 1 0\n");
 }
 
-/// Far more links one after another than a set of states has stamps: no state of a question before may count as active.
+/// A refused book's line is the only one, for each cause that a book can have.
 #[test]
-fn many_links() {
-    let Some(engine) = engine() else { return };
-    run("many links", 20, |trial, random| {
-        let mut questions = Vec::new();
-        for number in 0..256 {
-            let role = random.pick(&[0, 1, 2, 3, 6, 7]);
-            let links = if number % 64 == 63 { 3 } else { 1024 };
-            let mut chain = vec![0; links];
-            if role > 1 {
-                chain[links - 1] = 2;
-            }
-            if role > 3 {
-                chain[links - 2] = 2;
-                chain[links - 1] = 4;
-            }
-            if role & 1 == 1 {
-                chain.reverse();
-                chain.iter_mut().for_each(|link| *link ^= 1);
-            }
-            if random.percent(40) {
-                chain[random.below(links)] = random.below(8) as u8;
-            }
-            questions.push(role);
-            questions.extend((links as u16).to_le_bytes());
-            questions.extend(chain);
+fn refused_books() {
+    let with = |place: usize, byte: u8| {
+        let mut book = HALL.to_vec();
+        book[place] = byte;
+        book
+    };
+    let tower: Vec<_> = (1..5).map(|name| (2 * name, [2 * name - 2; 8])).collect();
+    let books = [
+        (HALL[..7].to_vec(), "1 0"),
+        (with(0, b'r'), "2 0"),
+        (with(4, 1), "3 0"),
+        (with(5, 0), "4 0"),
+        (with(9, 9), "5 0"),
+        (HALL[..19].to_vec(), "5 2"),
+        ([HALL, &[0]].concat(), "5 3"),
+        (with(12, 8), "6 1"),
+        (encode(2, &[(0, [2]), (2, [3]), (1, [3])]), "7 2"),
+        (encode(2, &[(0, [2]), (2, [0])]), "8 1"),
+        (encode(5, &tower), "9 0"),
+    ];
+    for (book, told) in books {
+        owed(Some(&book), QUESTIONS, &format!("book refused {told}\n"));
+    }
+}
+
+/// A file of more than 2,568 bytes is refused by its size, whatever its bytes are; one of 2,568 by what is in it.
+#[test]
+fn overlong_books() {
+    let book = longest(&mut Random::new(1));
+    assert_eq!(book.len(), 2568);
+    owed(Some(&book), QUESTIONS, "book refused 9 0\n");
+    owed(Some(&[0; 2568]), QUESTIONS, "book refused 2 0\n");
+    for length in [2569, 4095, 4096, 4097, 65536, 1 << 20] {
+        for front in [&book[..], HALL, &[]] {
+            let mut bytes = front.to_vec();
+            bytes.resize(length, 0);
+            owed(Some(&bytes), QUESTIONS, "book refused 1 0\n");
         }
-        let given = written(&engine, &[], Some(HALL), &questions);
-        let owed = written(&plain_engine(), &[], Some(HALL), &questions);
-        let input = [("engine", given.clone()), ("plain_engine", owed.clone())];
-        trial.check(given == owed, "the programs differ", &input);
-        trial.count("lines", owed.lines().count() as u64);
-        trial.count("yes", owed.matches("yes").count() as u64);
-    });
+    }
 }
 
 #[test]
 fn every_cut() {
-    let Some(engine) = engine() else { return };
     for length in 0..=QUESTIONS.len() {
-        let given = written(&engine, &[], Some(HALL), &QUESTIONS[..length]);
-        let owed = written(&plain_engine(), &[], Some(HALL), &QUESTIONS[..length]);
-        assert_eq!(given, owed, "the first {length} bytes of the questions");
+        let whole = ENDS.iter().filter(|end| **end <= length).count();
+        let mut lines = LINES[..=whole].concat();
+        if length > 0 && !ENDS.contains(&length) {
+            lines += &format!("{whole} cut\n");
+        }
+        owed(Some(HALL), &QUESTIONS[..length], &lines);
+    }
+}
+
+/// A question of 1,024 links after another one, cut everywhere.
+#[test]
+fn every_cut_of_a_long_question() {
+    let first = question(6, &[6]);
+    let input = [&first[..], &question(0, &[0; 1024])].concat();
+    for length in first.len()..=input.len() {
+        let last = match length {
+            4 => "",
+            1031 => "1 yes\n",
+            _ => "1 cut\n",
+        };
+        let given = written(&engine(), &[], Some(HALL), &input[..length], Way::File);
+        assert_eq!(
+            given,
+            format!("book 16 18\n0 yes\n{last}"),
+            "{length} bytes"
+        );
+    }
+}
+
+/// The longest question, which fills a block, alone and after a question of up to ten links; whole, and cut.
+#[test]
+fn longest_question() {
+    let long = question(99, &[6; LONGEST]);
+    for links in 0..=10 {
+        let first = question(0, &vec![0; links]);
+        let answer = if links == 0 { "refused 13" } else { "yes" };
+        let input = [&first[..], &long, &question(6, &[6])].concat();
+        let lines = format!("book 16 18\n0 {answer}\n1 refused 13\n2 yes\n");
+        owed(Some(HALL), &input, &lines);
+    }
+    let cut = |bytes: usize| &long[..bytes];
+    owed(Some(HALL), &long, "book 16 18\n0 refused 13\n");
+    for bytes in [1, 2, 3, 4, 4096, 65535, 65536, 65537] {
+        owed(Some(HALL), cut(bytes), "book 16 18\n0 cut\n");
+    }
+    let input = [&long[..], &long, &long, cut(65537)].concat();
+    let lines = "book 16 18\n0 refused 13\n1 refused 13\n2 refused 13\n3 cut\n";
+    owed(Some(HALL), &input, lines);
+}
+
+/// A refused question's chain is read past, also where its bytes look like questions.
+#[test]
+fn refused_chains_are_read_past() {
+    let questions = QUESTIONS.repeat(40);
+    let asked = question(6, &[6]);
+    for (refused, cause) in [
+        (question(6, &[]), 13),
+        (question(6, &questions[..1025]), 13),
+        (question(99, &questions[..1025]), 13),
+        (question(6, &QUESTIONS.repeat(2520)[..65520]), 13),
+        (question(8, &[6]), 14),
+        (question(255, QUESTIONS), 14),
+        (question(6, &[6, 8]), 14),
+        (question(6, &questions[..1024]), 14),
+    ] {
+        let input = [&asked[..], &refused, &asked, &refused, &asked].concat();
+        let lines =
+            format!("book 16 18\n0 yes\n1 refused {cause}\n2 yes\n3 refused {cause}\n4 yes\n");
+        owed(Some(HALL), &input, &lines);
+    }
+}
+
+/// Questions about the hall book, with their answers by hand.
+fn known() -> Vec<(Vec<u8>, &'static str)> {
+    vec![
+        (question(6, &[0, 0, 2, 4]), "yes"),
+        (question(6, &[2, 0, 4]), "no"),
+        (question(7, &[5, 3, 1]), "yes"),
+        (question(6, &[]), "refused 13"),
+        (question(6, &[8]), "refused 14"),
+        (question(6, &[6]), "yes"),
+        (question(2, &[0]), "no"),
+        (question(0, &[0; 29]), "yes"),
+        (question(2, &[0, 0, 0, 0, 0, 0, 0, 2]), "yes"),
+        (question(1, &[1; 100]), "yes"),
+        (question(0, &[1; 100]), "no"),
+        (question(3, &[3, 1, 1, 0]), "no"),
+    ]
+}
+
+/// Four blocks and more of known questions. One question goes before them, so that the borders of blocks fall on
+/// every byte of a question as its length grows.
+#[test]
+fn many_blocks() {
+    let known = known();
+    for links in 0..24 {
+        let mut random = Random::new(links as u64);
+        let mut input = question(0, &vec![1; links]);
+        let mut lines = String::from("book 16 18\n");
+        lines += if links == 0 {
+            "0 refused 13\n"
+        } else {
+            "0 no\n"
+        };
+        let mut number = 1;
+        while input.len() < 4 * 65538 {
+            let (bytes, answer) = &known[random.below(known.len())];
+            input.extend(bytes);
+            lines += &format!("{number} {answer}\n");
+            number += 1;
+        }
+        assert!(number > 9000);
+        owed(Some(HALL), &input, &lines);
+    }
+}
+
+/// More questions than 16 bits can number, with more lines than a block holds.
+#[test]
+fn many_numbers() {
+    let mut lines = String::from("book 16 18\n");
+    for number in 0..70_000 {
+        lines += &format!("{number} refused 13\n");
+    }
+    owed(Some(HALL), &[6, 0, 0].repeat(70_000), &lines);
+}
+
+/// Input that comes in small pieces is answered as if it came at once.
+#[test]
+fn small_pieces() {
+    let mut input = QUESTIONS.to_vec();
+    let mut lines = LINES.concat();
+    for (number, (bytes, answer)) in (5..).zip(known()) {
+        input.extend(bytes);
+        lines += &format!("{number} {answer}\n");
+    }
+    input.push(6);
+    lines += "17 cut\n";
+    for size in [1, 2, 3, 5, 7, 64] {
+        for program in [plain_engine(), engine()] {
+            let given = written(&program, &[], Some(HALL), &input, Way::Pieces(size));
+            assert_eq!(given, lines, "{size} bytes at a time");
+        }
     }
 }

@@ -103,26 +103,31 @@ fn worked_books() {
 
 #[test]
 fn a_little_of_books() {
-    run_exactly("valid", 100, books::valid);
-    run_exactly("near_limit", 30, books::near_limit);
-    run_exactly("over_limit", 30, books::over_limit);
-    run_exactly("without_order", 300, books::without_order);
-    run_exactly("any_rules", 500, books::any_rules);
+    run_exactly("valid", 100, books::VALID, books::valid);
+    run_exactly("near_limit", 30, books::NEAR_LIMIT, books::near_limit);
+    run_exactly("over_limit", 30, books::OVER_LIMIT, books::over_limit);
+    run_exactly(
+        "without_order",
+        300,
+        books::WITHOUT_ORDER,
+        books::without_order,
+    );
+    run_exactly("any_rules", 500, books::ANY_RULES, books::any_rules);
 }
 
 #[test]
 fn a_little_of_damage() {
-    run_exactly("every_byte_of_hall", 1, |trial, random| {
+    run_exactly("every_byte_of_hall", 1, damage::BYTES, |trial, random| {
         for place in 0..HALL.len() {
             damage::byte(trial, random, HALL, place, 0..=255);
         }
     });
-    run_exactly("front_parts", 1, |trial, random| {
+    run_exactly("front_parts", 1, damage::FRONT_PARTS, |trial, random| {
         for book in [HALL.to_vec(), longest(random), fullest(random)] {
             damage::front_parts(trial, random, &book);
         }
     });
-    run_exactly("every_length", 1, |trial, random| {
+    run_exactly("every_length", 1, damage::LENGTHS, |trial, random| {
         for length in 0..=2700 {
             damage::length(trial, random, length);
         }
@@ -131,7 +136,7 @@ fn a_little_of_damage() {
 
 #[test]
 fn a_little_of_lent_tables() {
-    run_exactly("every_pair", 1, |trial, random| {
+    run_exactly("every_pair", 1, lent::LENGTHS, |trial, random| {
         lent::every_pair(trial, HALL);
         let book = lent::sized(random, 100);
         lent::every_length(trial, &book);
@@ -140,10 +145,10 @@ fn a_little_of_lent_tables() {
 
 #[test]
 fn a_little_of_tables() {
-    run_exactly("graphs", 300, tables::graph);
-    run_exactly("limits", 1000, tables::limit);
-    run_exactly("silent_cycles", 20, tables::cycle);
-    run_exactly("role_bytes", 1, |trial, random| {
+    run_exactly("graphs", 300, tables::GRAPH, tables::graph);
+    run_exactly("limits", 1000, tables::LIMIT, tables::limit);
+    run_exactly("silent_cycles", 20, tables::CYCLE, tables::cycle);
+    run_exactly("role_bytes", 1, tables::ROLES, |trial, random| {
         for heads in [1, 2, 64] {
             tables::roles(trial, random, heads);
         }

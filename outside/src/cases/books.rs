@@ -1,18 +1,37 @@
 //! Cases with well-formed books: all that can be asked of one book.
 
+use crate::archive::Reply;
 use crate::books::{careless, encode, Axiom, Draft, Style, MOST_RULES};
 use crate::chains::{self, Replacements};
 use crate::plain::book::Book;
 use crate::plain::intervals::Intervals;
 use crate::plain::rewriting::Rewriting;
 use crate::random::Random;
-use crate::trial::{hex, Tables, Trial};
+use crate::trial::{hex, Met, Tables, Trial};
 
 /// Chains up to these lengths are put to the two other membership methods.
 const INTERVAL_LINKS: usize = 24;
 const REWRITING_LINKS: usize = 7;
 /// Rewriting gives up after so many chains.
 const REWRITING_LIMIT: usize = 2000;
+
+pub const VALID: &[Met] = &[
+    Met::Accepted("read"),
+    Met::Accepted("order"),
+    Met::Accepted("build"),
+    Met::Refused("build", 11),
+    Met::Yes("ask"),
+    Met::No("ask"),
+    Met::Refused("ask", 13),
+    Met::Refused("ask", 14),
+    Met::Yes("derived"),
+    Met::No("derived"),
+    Met::Refused("derived", 11),
+    Met::Refused("derived", 13),
+    Met::Refused("derived", 14),
+    Met::Counted("questions by intervals"),
+    Met::Counted("questions by rewriting"),
+];
 
 /// A book with an order and within the limits.
 pub fn valid(trial: &mut Trial, random: &mut Random) {
@@ -28,19 +47,30 @@ pub fn valid(trial: &mut Trial, random: &mut Random) {
     questions(trial, random, &draft, &tables, times);
 }
 
+pub const NEAR_LIMIT: &[Met] = &[
+    Met::Accepted("build"),
+    Met::Refused("build", 9),
+    Met::Counted("books of 2,048 states"),
+    Met::Counted("books of 2,050 states"),
+    Met::Yes("ask"),
+    Met::No("ask"),
+];
+
 /// A book with a number of states just below, at or just above the limit.
 pub fn near_limit(trial: &mut Trial, random: &mut Random) {
     let states = random.pick(&[2044, 2046, 2048, 2050, 2052]);
-    let style = Style {
-        states: random.between(200, 2000) as u64,
-        rules: random.between(0, 120),
-        ..Style::draw(random)
-    };
-    let mut draft = Draft::draw(random, &style);
-    if !draft.fill(random, states) {
+    let draft = loop {
+        let style = Style {
+            states: random.between(200, 2000) as u64,
+            rules: random.between(0, 120),
+            ..Style::draw(random)
+        };
+        let mut draft = Draft::draw(random, &style);
+        if draft.fill(random, states) {
+            break draft;
+        }
         trial.count("books that could not be filled", 1);
-        return;
-    }
+    };
     let book = draft.bytes();
     let tables = everything(trial, random, &book);
     let accepted = tables.is_some();
@@ -59,6 +89,8 @@ pub fn near_limit(trial: &mut Trial, random: &mut Random) {
     }
 }
 
+pub const OVER_LIMIT: &[Met] = &[Met::Accepted("order"), Met::Refused("build", 9)];
+
 /// A book far over the state limit, most often with many long rules.
 pub fn over_limit(trial: &mut Trial, random: &mut Random) {
     let style = Style {
@@ -74,6 +106,13 @@ pub fn over_limit(trial: &mut Trial, random: &mut Random) {
     everything(trial, random, &book);
 }
 
+pub const WITHOUT_ORDER: &[Met] = &[
+    Met::Accepted("read"),
+    Met::Refused("order", 8),
+    Met::Refused("build", 8),
+    Met::Refused("derived", 8),
+];
+
 /// A book with a rule, or a few, that leave it without an order.
 pub fn without_order(trial: &mut Trial, random: &mut Random) {
     let style = Style::draw(random);
@@ -87,6 +126,16 @@ pub fn without_order(trial: &mut Trial, random: &mut Random) {
     }
     everything(trial, random, &draft.bytes());
 }
+
+pub const ANY_RULES: &[Met] = &[
+    Met::Refused("read", 7),
+    Met::Refused("order", 8),
+    Met::Yes("ask"),
+    Met::No("ask"),
+    Met::Counted("questions by intervals"),
+    Met::Counted("questions by rewriting"),
+    Met::Counted("chains of books without tables, by both methods"),
+];
 
 /// A book of random rules. The two membership methods agree on it even where it has no order.
 pub fn any_rules(trial: &mut Trial, random: &mut Random) {
@@ -169,7 +218,8 @@ fn questions(trial: &mut Trial, random: &mut Random, draft: &Draft, tables: &Tab
             ("role", hex(&[role])),
             ("chain", hex(&derived)),
         ];
-        trial.check(reply.first == 1, "a derived chain is not accepted", &input);
+        let yes = reply == Reply::answered(true);
+        trial.check(yes, "a derived chain is not accepted", &input);
         asker.every_role(trial, random, &derived);
         let near = chains::nearly(random, &derived, names);
         trial.count("chains nearly derived", 1);
@@ -198,7 +248,12 @@ impl Asker<'_> {
         let mut roles = 0u128;
         for role in 0..2 * self.names as u8 {
             let reply = trial.ask(&self.tables.heads, &self.tables.moves, role, chain);
-            roles |= u128::from(reply.first) << role;
+            let yes = reply == Reply::answered(true);
+            if !yes && reply != Reply::answered(false) {
+                let input = [("role", hex(&[role])), ("chain", hex(chain))];
+                trial.check(false, "a question about a book is refused", &input);
+            }
+            roles |= u128::from(yes) << role;
         }
         self.other_methods(trial, chain, roles);
         self.build_and_ask(trial, random, chain, roles);
@@ -234,7 +289,7 @@ impl Asker<'_> {
         let moves = self.tables.moves.len() + random.below(7);
         let role = random.below(2 * self.names) as u8;
         let reply = trial.derived(self.book, heads, moves, role, chain);
-        let same = u128::from(reply.first) == roles >> role & 1;
+        let same = reply == Reply::answered(roles >> role & 1 == 1);
         let input = [
             ("book", hex(self.book)),
             ("role", hex(&[role])),

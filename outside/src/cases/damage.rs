@@ -2,7 +2,33 @@
 
 use crate::books::encode;
 use crate::random::Random;
-use crate::trial::Trial;
+use crate::trial::{Met, Trial};
+
+/// Changed bytes are refused by all that a reader looks for but the number of bytes, and some are a book.
+pub const BYTES: &[Met] = &[
+    Met::Accepted("build"),
+    Met::Refused("build", 2),
+    Met::Refused("build", 3),
+    Met::Refused("build", 4),
+    Met::Refused("build", 5),
+    Met::Refused("build", 6),
+];
+
+/// Front parts are too short, or end inside a rule; longer books have bytes after the last.
+pub const FRONT_PARTS: &[Met] = &[
+    Met::Accepted("build"),
+    Met::Refused("build", 1),
+    Met::Refused("build", 5),
+];
+
+pub const LENGTHS: &[Met] = &[
+    Met::Accepted("read"),
+    Met::Refused("build", 1),
+    Met::Refused("build", 2),
+    Met::Refused("build", 5),
+    Met::Refused("build", 6),
+    Met::Refused("build", 8),
+];
 
 /// Puts bytes to all four calls that take a book, with a short question.
 pub fn any_book(trial: &mut Trial, random: &mut Random, book: &[u8]) {

@@ -2,7 +2,16 @@
 
 use crate::books::{Draft, Style};
 use crate::random::Random;
-use crate::trial::Trial;
+use crate::trial::{Met, Trial};
+
+pub const PAIRS: &[Met] = &[Met::Accepted("build"), Met::Refused("build", 11)];
+
+pub const LENGTHS: &[Met] = &[
+    Met::Accepted("build"),
+    Met::Refused("build", 11),
+    Met::Yes("derived"),
+    Met::Refused("derived", 11),
+];
 
 /// Every number of heads with every number of moves up to a few past what the book needs.
 pub fn every_pair(trial: &mut Trial, book: &[u8]) {

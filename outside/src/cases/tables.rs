@@ -1,9 +1,10 @@
 //! Cases with tables that no book gave: at and past each limit of cause 12, dense graphs, silent cycles.
 
+use crate::archive::Reply;
 use crate::chains::MOST_LINKS;
 use crate::plain::paths;
 use crate::random::Random;
-use crate::trial::{hex, Trial};
+use crate::trial::{hex, Met, Trial};
 
 /// Tables and a question.
 #[derive(Clone)]
@@ -15,9 +16,8 @@ struct Question {
 }
 
 impl Question {
-    fn put(&self, trial: &mut Trial) -> u64 {
-        let reply = trial.ask(&self.heads, &self.moves, self.role, &self.chain);
-        reply.first
+    fn put(&self, trial: &mut Trial) -> Reply {
+        trial.ask(&self.heads, &self.moves, self.role, &self.chain)
     }
 }
 
@@ -58,6 +58,13 @@ fn draw(random: &mut Random) -> Question {
     }
 }
 
+pub const GRAPH: &[Met] = &[
+    Met::Yes("ask"),
+    Met::No("ask"),
+    Met::Counted("questions by paths"),
+    Met::Counted("inverse questions"),
+];
+
 /// A random graph, asked as drawn, about the inverse, and about each link alone.
 pub fn graph(trial: &mut Trial, random: &mut Random) {
     let mut question = draw(random);
@@ -71,7 +78,8 @@ pub fn graph(trial: &mut Trial, random: &mut Random) {
         } = &question;
         let slow = paths::ask(heads, moves, *role, chain);
         let input = [("role", hex(&[*role])), ("chain", hex(chain))];
-        trial.check(u64::from(slow) == answer, "ask and paths differ", &input);
+        let same = Reply::answered(slow) == answer;
+        trial.check(same, "ask and paths differ", &input);
         trial.count("questions by paths", 1);
     }
     question.role ^= 1;
@@ -85,10 +93,19 @@ pub fn graph(trial: &mut Trial, random: &mut Random) {
         let inverse = question.put(trial);
         let input = [("chain", hex(&question.chain))];
         trial.check(inverse == answer, "the inverse question differs", &input);
+        trial.count("inverse questions", 1);
     }
     question.chain.truncate(1);
     question.put(trial);
 }
+
+pub const LIMIT: &[Met] = &[
+    Met::Yes("ask"),
+    Met::No("ask"),
+    Met::Refused("ask", 12),
+    Met::Refused("ask", 13),
+    Met::Refused("ask", 14),
+];
 
 /// A graph with one thing at or just past a limit; at times a second thing is wrong, and the first cause in order is the
 /// answer.
@@ -153,6 +170,8 @@ fn move_at_limit(question: &mut Question, random: &mut Random) {
     };
 }
 
+pub const CYCLE: &[Met] = &[Met::Yes("ask"), Met::No("ask")];
+
 /// Long silent cycles with a few letters between them, and all states active for many links.
 pub fn cycle(trial: &mut Trial, random: &mut Random) {
     let states = random.pick(&[2, 64, 65, 500, 2048]) as u16;
@@ -184,6 +203,8 @@ pub fn cycle(trial: &mut Trial, random: &mut Random) {
     };
     same.put(trial);
 }
+
+pub const ROLES: &[Met] = &[Met::Yes("ask"), Met::No("ask"), Met::Refused("ask", 14)];
 
 /// Every role byte, asked and as the only link, for tables of so many heads.
 pub fn roles(trial: &mut Trial, random: &mut Random, heads: usize) {

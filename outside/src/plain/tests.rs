@@ -22,12 +22,10 @@ fn inv(role: u8) -> u8 {
     role ^ 1
 }
 
-/// The number of the cause and the value beside it; 0 with the first number of what was accepted.
-fn first<T: Into<u128>>(result: Result<(u64, T), Refusal>) -> (u64, u64) {
-    match result {
-        Ok((first, _)) => (0, first),
-        Err(Refusal { cause, value }) => (cause as u64, value),
-    }
+/// The number of the cause and the value beside it.
+fn refusal(result: Result<(u64, u64), Refusal>) -> (u64, u64) {
+    let Refusal { cause, value } = result.expect_err("it is accepted");
+    (cause as u64, value)
 }
 
 struct Tables {
@@ -169,19 +167,19 @@ fn program_refusals() {
 
 #[test]
 fn starred_books() {
-    assert_eq!(first(order(&encode(1, &[(R, [R])]))), (8, 0));
-    assert_eq!(first(order(&encode(2, &[(R, [S]), (S, [R])]))), (8, 1));
+    assert_eq!(refusal(order(&encode(1, &[(R, [R])]))), (8, 0));
+    assert_eq!(refusal(order(&encode(2, &[(R, [S]), (S, [R])]))), (8, 1));
     let symmetric = encode(1, &[(R, [inv(R)]), (inv(R), [R])]);
-    assert_eq!(first(read(&symmetric)), (7, 1));
+    assert_eq!(refusal(read(&symmetric)), (7, 1));
     let empty = encode(1, &[] as &[(u8, [u8; 0])]);
     assert_eq!(build(&empty, &mut [0], &mut [0; 3]), Ok((2, 1)));
-    assert_eq!(first(read(&encode(0, &[] as &[(u8, [u8; 0])]))), (4, 0));
+    assert_eq!(refusal(read(&encode(0, &[] as &[(u8, [u8; 0])]))), (4, 0));
 }
 
 #[test]
 fn headers() {
     for length in 0..8 {
-        assert_eq!(first(read(&HALL[..length])), (1, 0));
+        assert_eq!(refusal(read(&HALL[..length])), (1, 0));
     }
     // 256 rules of length 8 pass, all different.
     let row = |number: u8| [0, 1, 2, 3, 4, 5, 6, 7].map(|bit| S | number >> bit & 1);
@@ -191,12 +189,13 @@ fn headers() {
     assert_eq!(read(&long), Ok((64, 256)));
     assert_eq!(order(&long), Ok((64, 256)));
     long.push(0);
-    assert_eq!(first(read(&long)), (1, 0));
-    let with = |at: usize, byte: u8| {
+    assert_eq!(refusal(read(&long)), (1, 0));
+    let changed = |at: usize, byte: u8| {
         let mut book = HALL.to_vec();
         book[at] = byte;
-        first(read(&book))
+        read(&book)
     };
+    let with = |at, byte| refusal(changed(at, byte));
     for at in 0..3 {
         assert_eq!(with(at, 0), (2, 0));
     }
@@ -204,48 +203,48 @@ fn headers() {
     assert_eq!(with(4, 1), (3, 0));
     assert_eq!(with(5, 0), (4, 0));
     assert_eq!(with(5, 65), (4, 0));
-    assert_eq!(with(5, 64), (0, 64));
+    assert_eq!(changed(5, 64), Ok((64, 3)));
     assert_eq!(with(7, 2), (4, 0));
     // 256 + 3 rules are too many; 256 are not, but they are cut short.
     assert_eq!(with(7, 1), (4, 0));
     let mut book = HALL.to_vec();
     (book[6], book[7]) = (0, 1);
-    assert_eq!(first(read(&book)), (5, 3));
+    assert_eq!(refusal(read(&book)), (5, 3));
     (book[6], book[7]) = (1, 1);
-    assert_eq!(first(read(&book)), (4, 0));
+    assert_eq!(refusal(read(&book)), (4, 0));
     (book[6], book[7]) = (2, 0);
-    assert_eq!(first(read(&book)), (5, 2));
+    assert_eq!(refusal(read(&book)), (5, 2));
 }
 
 #[test]
 fn rules_one_after_another() {
     // Cut short at each byte: the rule that is cut.
     for (length, rule) in (8..20).zip([0, 0, 0, 0, 1, 1, 1, 1, 2, 2, 2, 2]) {
-        assert_eq!(first(read(&HALL[..length])), (5, rule));
+        assert_eq!(refusal(read(&HALL[..length])), (5, rule));
     }
-    assert_eq!(first(read(&encode(2, &[(R, vec![S; 8])]))), (0, 2));
-    assert_eq!(first(read(&encode(2, &[(R, vec![S; 9])]))), (5, 0));
-    assert_eq!(first(read(&encode(2, &[(R, vec![])]))), (5, 0));
+    assert_eq!(read(&encode(2, &[(R, vec![S; 8])])), Ok((2, 1)));
+    assert_eq!(refusal(read(&encode(2, &[(R, vec![S; 9])]))), (5, 0));
+    assert_eq!(refusal(read(&encode(2, &[(R, vec![])]))), (5, 0));
     // 5 comes first in each rule, but a rule with an unknown role comes before a later rule of length 0.
     assert_eq!(
-        first(read(&encode(2, &[(4, vec![S]), (R, vec![])]))),
+        refusal(read(&encode(2, &[(4, vec![S]), (R, vec![])]))),
         (6, 0)
     );
     assert_eq!(
-        first(read(&encode(2, &[(R, vec![S]), (4, vec![])]))),
+        refusal(read(&encode(2, &[(R, vec![S]), (4, vec![])]))),
         (5, 1)
     );
     assert_eq!(
-        first(read(&encode(2, &[(R, vec![S]), (R, vec![3, 4])]))),
+        refusal(read(&encode(2, &[(R, vec![S]), (R, vec![3, 4])]))),
         (6, 1)
     );
     // Bytes after the last rule come after 6 and before 7.
     let mut book = encode(2, &[(R, vec![S]), (R, vec![S])]);
-    assert_eq!(first(read(&book)), (7, 1));
+    assert_eq!(refusal(read(&book)), (7, 1));
     book.push(0);
-    assert_eq!(first(read(&book)), (5, 2));
+    assert_eq!(refusal(read(&book)), (5, 2));
     book[8] = 9;
-    assert_eq!(first(read(&book)), (6, 0));
+    assert_eq!(refusal(read(&book)), (6, 0));
 }
 
 #[test]
@@ -256,13 +255,13 @@ fn repeated_rules() {
         (R, vec![inv(S)]),
         (inv(R), vec![S, inv(S)]),
     ];
-    assert_eq!(first(read(&encode(2, &rules))), (7, 2));
+    assert_eq!(refusal(read(&encode(2, &rules))), (7, 2));
     // Equal left sides with different right sides, or front parts of each other, are no repetition.
     let rules = [(R, vec![S]), (inv(R), vec![S]), (R, vec![S, S])];
-    assert_eq!(first(read(&encode(2, &rules))), (0, 2));
+    assert_eq!(read(&encode(2, &rules)), Ok((2, 3)));
     assert_eq!(
-        first(read(&encode(2, &[(R, vec![0]), (R, vec![0, 0])]))),
-        (0, 2)
+        read(&encode(2, &[(R, vec![0]), (R, vec![0, 0])])),
+        Ok((2, 2))
     );
 }
 
@@ -281,7 +280,7 @@ fn left_sides() {
 
 #[test]
 fn forms_without_order() {
-    let order_of = |rules: &[(u8, &[u8])]| first(order(&encode(3, rules)));
+    let order_of = |rules: &[(u8, &[u8])]| order(&encode(3, rules));
     let t = 4;
     for left in [
         &[R][..],
@@ -296,10 +295,10 @@ fn forms_without_order() {
         &[R, R, S],
         &[R, S, inv(R)],
     ] {
-        assert_eq!(order_of(&[(S, &[t]), (R, left)]), (8, 1));
+        assert_eq!(refusal(order_of(&[(S, &[t]), (R, left)])), (8, 1));
         // The same for an inverse on the right.
         let inverse = completion::inverse(left);
-        assert_eq!(order_of(&[(S, &[t]), (inv(R), &inverse)]), (8, 1));
+        assert_eq!(refusal(order_of(&[(S, &[t]), (inv(R), &inverse)])), (8, 1));
     }
     for left in [
         &[S][..],
@@ -311,16 +310,22 @@ fn forms_without_order() {
         &[R, R],
         &[inv(R)],
     ] {
-        assert_eq!(order_of(&[(S, &[t]), (R, left)]), (0, 3));
+        assert_eq!(order_of(&[(S, &[t]), (R, left)]), Ok((3, 2)));
         let inverse = completion::inverse(left);
-        assert_eq!(order_of(&[(S, &[t]), (inv(R), &inverse)]), (0, 3));
+        assert_eq!(order_of(&[(S, &[t]), (inv(R), &inverse)]), Ok((3, 2)));
     }
-    assert_eq!(
-        order_of(&[(S, &[R]), (t, &[S]), (t, &[t, t]), (inv(R), &[inv(R), t])]),
-        (8, 3)
-    );
+    let long_circle = [
+        (S, &[R][..]),
+        (t, &[S]),
+        (t, &[t, t]),
+        (inv(R), &[inv(R), t]),
+    ];
+    assert_eq!(refusal(order_of(&long_circle)), (8, 3));
     // A well-formed front part decides, whatever follows.
-    assert_eq!(order_of(&[(S, &[R]), (R, &[inv(S)]), (t, &[t])]), (8, 1));
+    assert_eq!(
+        refusal(order_of(&[(S, &[R]), (R, &[inv(S)]), (t, &[t])])),
+        (8, 1)
+    );
 }
 
 #[test]
@@ -391,11 +396,14 @@ fn state_limit() {
     assert_eq!(moves[3 * transitions as usize - 3..][..3], [2046, 2, 2047]);
     let (mut heads, mut moves) = ([5; 2], [5; 3 * MAX_TRANSITIONS]);
     let over = sized(MAX_STATES + 2);
-    assert_eq!(first(build(&over, &mut heads, &mut moves)), (9, 0));
+    assert_eq!(refusal(build(&over, &mut heads, &mut moves)), (9, 0));
     assert_eq!((heads, moves), ([5; 2], [5; 3 * MAX_TRANSITIONS]));
     // Sizes far beyond any number type: each name has eight of the one below.
     let tower: Vec<_> = (1..64).map(|name| (2 * name, [2 * name - 2; 8])).collect();
-    assert_eq!(first(build(&encode(64, &tower), &mut [], &mut [])), (9, 0));
+    assert_eq!(
+        refusal(build(&encode(64, &tower), &mut [], &mut [])),
+        (9, 0)
+    );
 }
 
 #[test]
@@ -405,7 +413,7 @@ fn lent_tables() {
             let (mut heads, mut moves) = (vec![9; heads_lent], vec![9; moves_lent]);
             let result = build(HALL, &mut heads, &mut moves);
             if heads_lent < 4 || moves_lent < 54 {
-                assert_eq!(first(result), (11, 0));
+                assert_eq!(refusal(result), (11, 0));
                 assert!(heads.iter().chain(&moves).all(|&number| number == 9));
             } else {
                 assert_eq!(result, Ok((16, 18)));
