@@ -1,6 +1,6 @@
 """Tests of tools/book: the text form, book.rlb, OWL and questions. Run: python3 tools/test_book.py
 
-Questions are put to the real engine (RABBITSTEEL_ENGINE, else target/bin/engine); without it those tests are skipped.
+Questions are put to the real engine (RABBITSTEEL_ENGINE, else target/bin/engine); without it those tests fail.
 """
 
 import contextlib
@@ -22,8 +22,9 @@ TOOLS = Path(__file__).resolve().parent
 sys.path.insert(0, str(TOOLS))
 
 from booktext import engine, file_format, owl_reader, owl_writer, text_form  # noqa: E402
-from booktext.causes import WORDS, Refusal  # noqa: E402
+from booktext.causes import WORDS, Refusal, book_words  # noqa: E402
 from booktext.command_line import main  # noqa: E402
+from booktext.commands import answer_words  # noqa: E402
 from booktext.faults import Fault  # noqa: E402
 from booktext.model import Book, Role, Rule  # noqa: E402
 from booktext.names import generated, trouble  # noqa: E402
@@ -41,8 +42,25 @@ HALL_BYTES = bytes.fromhex("524C420100040300 00020000 02020002 06020204")
 HALL_BARE = "names part sits let due\n\npart part -> part\npart sits -> sits\nsits let -> due\n"
 
 ENGINE = Path(os.environ.get(engine.VARIABLE) or engine.BUILT).resolve()
-NO_ENGINE = f"no engine at {ENGINE}, so no question is put to it: run `rt check engine` first"
-needs_engine = unittest.skipUnless(ENGINE.is_file(), NO_ENGINE)
+NO_ENGINE = f"no engine at {ENGINE}, so no question can be put to it: run `rt check engine` first"
+
+# What the tool says of each cause.
+CAUSES = {
+    1: "the file has fewer than 8 or more than 2,568 bytes",
+    2: "the file does not begin with the mark RLB",
+    3: "the version is not 1",
+    4: "the names are not 1 to 64, or the rules are more than 256",
+    5: "this rule has no role or more than 8 on the left, or is cut short, or bytes follow the last rule",
+    6: "this rule has a role whose name the book does not have",
+    7: "this rule equals an earlier rule or its mirror",
+    8: "the rules up to this one have no regular order",
+    9: "the tables have more than 2,048 states",
+    10: "the tables have more than 5,120 moves",
+    11: "the memory lent for the tables is too short",
+    12: "the tables are out of bounds",
+    13: "the chain has no link or more than 1,024",
+    14: "a role that the tables do not have",
+}
 
 
 class Run(NamedTuple):
@@ -77,6 +95,15 @@ class InFolder(unittest.TestCase):
         Path(file).parent.mkdir(exist_ok=True)
         Path(file).write_text(text, encoding="utf-8")
         return file
+
+
+class WithEngine(InFolder):
+    """Each test puts something to the engine."""
+
+    def setUp(self) -> None:
+        if not ENGINE.is_file():
+            self.fail(NO_ENGINE)
+        super().setUp()
 
 
 # Names that try the form: marks inside and at the end, words of the text form and of OWL.
@@ -272,14 +299,34 @@ DAMAGED = [
 ]
 
 
+def damage(cause: int, value: int) -> str:
+    """The words for damaged bytes: causes 5 and 6 name a rule, of which nothing can be shown."""
+    return f"{CAUSES[cause]}: rule {value}" if cause in (5, 6) else CAUSES[cause]
+
+
+class Causes(unittest.TestCase):
+    def test_words(self) -> None:
+        self.assertEqual(WORDS, CAUSES)
+
+    def test_the_value_names_a_rule(self) -> None:
+        rules = read_text("names a b\na -> b\nb a -> b\n").rules
+        for cause, words in CAUSES.items():
+            with self.subTest(cause):
+                named = ": rule 1, b a -> b" if cause in (5, 6, 7, 8) else ""
+                self.assertEqual(book_words(Refusal(cause, 1), rules), words + named)
+
+    def test_refused_questions(self) -> None:
+        for cause in (12, 13, 14):
+            self.assertEqual(answer_words(Refusal(cause)), f"refused {cause}: {CAUSES[cause]}")
+
+
 class Bytes(InFolder):
     def test_damaged_bytes(self) -> None:
         for data, cause, value in DAMAGED:
             with self.subTest(data[:20].hex()):
                 Path("book.rlb").write_bytes(data)
-                told = run("unpack", "book.rlb")
-                self.assertEqual((told.status, told.output), (1, ""))
-                self.assertIn(f"book.rlb: no well-formed book, cause {cause} with {value}: {WORDS[cause]}", told.errors)
+                told = f"book.rlb: no well-formed book, cause {cause} with {value}: {damage(cause, value)}\n"
+                self.assertEqual(run("unpack", "book.rlb"), (1, "", told))
 
     def test_well_formed_bytes_come_back(self) -> None:
         rng = random.Random(2)
@@ -295,7 +342,8 @@ class Bytes(InFolder):
         for book in random_books(150, seed=3):
             self.assertEqual(file_format.decode(file_format.encode(book)).renamed(book.names), book)
 
-    @needs_engine
+
+class EngineCauses(WithEngine):
     def test_the_engine_gives_the_same_causes(self) -> None:
         rng = random.Random(4)
         samples = [data for data, _, _ in DAMAGED]
@@ -522,11 +570,10 @@ class Owl(InFolder):
 
 
 FIVE = ["due: part part sits let", "due: sits part let", "inv due: inv let inv sits inv part", "due:", "due: due"]
-NO_LINK = "the chain has no link or more than 1,024"
+NO_LINK = CAUSES[13]
 
 
-@needs_engine
-class Ask(InFolder):
+class Ask(WithEngine):
     def ask(self, *arguments: str, stdin: str = "") -> Run:
         return run("ask", *arguments, stdin=stdin)
 
@@ -572,10 +619,10 @@ class Ask(InFolder):
     def test_refused_books(self) -> None:
         large = "".join(f"{left} " * 8 + f"-> {right}\n" for left, right in ("rs", "st", "tu", "uv"))
         for rules, told in [
-            ("r -> r\n", f"8 0: {WORDS[8]}: rule 0, r -> r"),
-            ("s -> r\nr -> s\n", f"8 1: {WORDS[8]}: rule 1, r -> s"),
-            ("inv r -> r\nr -> inv r\n", f"7 1: {WORDS[7]}: rule 1, r -> inv r"),
-            (large, f"9 0: {WORDS[9]}"),
+            ("r -> r\n", f"8 0: {CAUSES[8]}: rule 0, r -> r"),
+            ("s -> r\nr -> s\n", f"8 1: {CAUSES[8]}: rule 1, r -> s"),
+            ("inv r -> r\nr -> inv r\n", f"7 1: {CAUSES[7]}: rule 1, r -> inv r"),
+            (large, f"9 0: {CAUSES[9]}"),
         ]:
             self.write("b.txt", f"names r s t u v\n{rules}")
             self.assertEqual(self.ask("b.txt", "r: s"), (1, f"book refused {told}\n", ""))
@@ -614,9 +661,8 @@ class Ask(InFolder):
     def test_folder_with_damaged_bytes(self) -> None:
         for data, cause, value in DAMAGED:
             Path("book.rlb").write_bytes(data)
-            told = self.ask(".", "r0: r0")
-            self.assertEqual((told.status, told.errors), (1, ""))
-            self.assertTrue(told.output.startswith(f"book refused {cause} {value}: {WORDS[cause]}"), told.output)
+            told = f"book refused {cause} {value}: {damage(cause, value)}\n"
+            self.assertEqual(self.ask(".", "r0: r0"), (1, told, ""))
 
     def test_axioms_mean_their_rules(self) -> None:
         both = "SymmetricObjectProperty(:p)\nTransitiveObjectProperty(:q)\n"
@@ -631,8 +677,7 @@ class Ask(InFolder):
             self.assertEqual(engine.ask(ENGINE, file_format.encode(book), []).refusal, Refusal(8, 1))
 
 
-@needs_engine
-class Page(InFolder):
+class Page(WithEngine):
     """docs/TEXT-FORM.md shows what is really written."""
 
     def setUp(self) -> None:
@@ -684,6 +729,48 @@ class EngineRun(InFolder):
             self.assertRaisesRegex(Fault, "not an engine's", engine.read_transcript, ENGINE, lines, 1)
 
 
+# What the script is given, its exit status, what it writes and what it says is wrong.
+RUNS = [
+    (["pack", "hall.txt"], 0, "book.rlb: names 4, rules 3, bytes 20\n", ""),
+    (["pack", "wrong.txt"], 1, "", "wrong.txt:2:1: unknown name 'b'\n"),
+    (["pack", "none.txt"], 1, "", "none.txt: No such file or directory\n"),
+    (["unpack", "hall.rlb"], 0, "names r0 r1 r2 r3\n\nr0 r0 -> r0\nr0 r1 -> r1\nr1 r2 -> r3\n", ""),
+    (["unpack", "short.rlb"], 1, "", f"short.rlb: no well-formed book, cause 1 with 0: {CAUSES[1]}\n"),
+    (["ask", "hall.txt"], 0, "book: 16 states, 18 moves\n", ""),
+    (["ask", "hall.txt", "due: sits let", "due: let"], 0, "due: sits let: yes\ndue: let: no\n", ""),
+    (["ask", "hall.txt", "due: due", "due:"], 1, f"due: due: yes\ndue: (no link): refused 13: {CAUSES[13]}\n", ""),
+    (["ask", "hall.txt", "due: lit"], 1, "", "question:1:6: unknown name 'lit'\n"),
+    (["ask", "circle.txt", "a: b"], 1, f"book refused 8 1: {CAUSES[8]}: rule 1, b -> a\n", ""),
+    (["to-owl", "wrong.txt"], 1, "", "wrong.txt:2:1: unknown name 'b'\n"),
+    (["to-owl", "hall.txt", "-o", "hall.ofn"], 0, "", ""),
+    (["from-owl", "hall.ofn"], 0, HALL_BARE, ""),
+    (["from-owl", "none.ofn"], 1, "", "none.ofn:1:1: no Ontology( .. )\n"),
+]
+
+
+class ExitStatus(WithEngine):
+    """The script run as a program."""
+
+    def test_each_command(self) -> None:
+        self.write("hall.txt", HALL_TEXT)
+        self.write("wrong.txt", "names a\nb -> a\n")
+        self.write("circle.txt", "names a b\na -> b\nb -> a\n")
+        Path("hall.rlb").write_bytes(HALL_BYTES)
+        self.write("none.ofn", "")
+        Path("short.rlb").write_bytes(HALL_BYTES[:7])
+        for words, status, output, errors in RUNS:
+            with self.subTest(words):
+                told = subprocess.run([TOOLS / "book", *words], input="", capture_output=True, text=True, check=False)
+                self.assertEqual((told.returncode, told.stdout, told.stderr), (status, output, errors))
+
+    def test_wrong_commands(self) -> None:
+        for words in ([], ["fold"], ["pack"], ["ask", "a", "--fast"]):
+            with self.subTest(words):
+                told = subprocess.run([TOOLS / "book", *words], capture_output=True, text=True, check=False)
+                self.assertEqual((told.returncode, told.stdout), (2, ""))
+                self.assertIn("usage: tools/book", told.stderr)
+
+
 class Script(unittest.TestCase):
     def test_help(self) -> None:
         told = subprocess.run([TOOLS / "book", "--help"], capture_output=True, text=True, check=True).stdout
@@ -704,6 +791,4 @@ class Script(unittest.TestCase):
 
 
 if __name__ == "__main__":
-    if not ENGINE.is_file():
-        print(NO_ENGINE, file=sys.stderr)
     unittest.main()

@@ -10,16 +10,18 @@ use std::time::Duration;
 
 const ENGINE: &str = "RABBITSTEEL_ENGINE";
 
-/// The program `engine`: where RABBITSTEEL_ENGINE says, or else at ../target/bin/engine.
-pub fn engine() -> PathBuf {
+/// The program `engine`: where RABBITSTEEL_ENGINE says, or else at ../target/bin/engine. Where there is none, why.
+pub fn find() -> Result<PathBuf, String> {
     let usual = || Path::new(env!("CARGO_MANIFEST_DIR")).join("../target/bin/engine");
     let path = std::env::var_os(ENGINE).map_or_else(usual, PathBuf::from);
-    path.canonicalize().unwrap_or_else(|_| {
-        panic!(
-            "there is no engine at {}: make it with `rt check engine` in the repository's root, or name it in {ENGINE}",
-            path.display()
-        )
-    })
+    let make = "make it with `rt check engine` in the repository's root, or name it in";
+    path.canonicalize()
+        .map_err(|_| format!("there is no engine at {}: {make} {ENGINE}", path.display()))
+}
+
+/// The same; that there is none is a failure.
+pub fn engine() -> PathBuf {
+    find().unwrap_or_else(|missing| panic!("{missing}"))
 }
 
 /// How questions reach a program.

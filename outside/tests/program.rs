@@ -248,17 +248,19 @@ fn many_numbers() {
     owed(Some(HALL), &[6, 0, 0].repeat(70_000), &lines);
 }
 
-/// Input that comes in small pieces is answered as if it came at once.
+/// Input that comes in small pieces, over a thousand of them, is answered as if it came at once.
 #[test]
 fn small_pieces() {
+    let known = known();
     let mut input = QUESTIONS.to_vec();
     let mut lines = LINES.concat();
-    for (number, (bytes, answer)) in (5..).zip(known()) {
+    for (number, (bytes, answer)) in (5..53).zip(known.iter().cycle()) {
         input.extend(bytes);
         lines += &format!("{number} {answer}\n");
     }
     input.push(6);
-    lines += "17 cut\n";
+    lines += "53 cut\n";
+    assert!(input.len() > 1000);
     for size in [1, 2, 3, 5, 7, 64] {
         for program in [plain_engine(), engine()] {
             let given = written(&program, &[], Some(HALL), &input, Way::Pieces(size));

@@ -134,7 +134,7 @@ fn questions(report: &mut Report) {
                 let (heads, moves) = (black_box(heads), black_box(moves));
                 plain::ask(heads, moves, *role, black_box(chain)).into()
             };
-            assert_eq!(Reply::from(Ok(*yes)), archive());
+            assert_eq!(archive(), Reply::answered(*yes));
             pair(report, "ask", &label, archive, plain);
         }
     }

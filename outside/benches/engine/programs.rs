@@ -1,10 +1,10 @@
-//! A million short questions through the program `engine` and through `plain_engine`. The former is looked for where
-//! RABBITSTEEL_ENGINE says, or else at ../target/bin/engine.
+//! A million short questions through the program `engine` and through `plain_engine`.
 
 use crate::measure::Times;
 use crate::report::{Report, Row};
 use outside::books::{Axiom, HALL};
 use outside::chains::{self, Replacements};
+use outside::programs;
 use outside::random::Random;
 use std::fs::{self, File};
 use std::path::{Path, PathBuf};
@@ -15,11 +15,12 @@ const QUESTIONS: usize = 1_000_000;
 const RUNS: usize = 7;
 
 pub fn rows(report: &mut Report) {
-    let usual = || Path::new(env!("CARGO_MANIFEST_DIR")).join("../target/bin/engine");
-    let path = std::env::var_os("RABBITSTEEL_ENGINE").map_or_else(usual, PathBuf::from);
-    let Ok(engine) = path.canonicalize() else {
-        report.note("The program's rows are left out: there is no `target/bin/engine` (make it with `rt check engine`).");
-        return;
+    let engine = match programs::find() {
+        Ok(engine) => engine,
+        Err(missing) => {
+            report.note(&format!("The program's rows are left out: {missing}."));
+            return;
+        }
     };
     let folder = std::env::temp_dir().join(format!("rabbitsteel-bench-{}", std::process::id()));
     fs::create_dir_all(&folder).expect("a folder for the questions");

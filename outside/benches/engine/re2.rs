@@ -19,7 +19,7 @@ mod compiled {
     use crate::inputs::{asked, hall_questions, Question, Tabled};
     use crate::measure::interleaved;
     use crate::report::{Report, Row};
-    use outside::archive;
+    use outside::archive::{self, Reply};
     use outside::books::HALL;
     use std::ffi::{c_char, c_void};
     use std::hint::black_box;
@@ -58,6 +58,8 @@ mod compiled {
         let Tabled { heads, moves } = Tabled::new(HALL);
         for Question { role, chain, yes } in hall_questions() {
             assert_eq!(due.matches(&chain), yes);
+            let reply = archive::ask(&heads, &moves, role, &chain);
+            assert_eq!(reply, Reply::answered(yes));
             let times = interleaved(
                 || archive::ask(black_box(&heads), &moves, role, &chain),
                 || due.matches(black_box(&chain)),
