@@ -1,4 +1,4 @@
-# Sourced by tools/answers and tools/library, with the repository's folder in root: messages, and a run of rt with short progress.
+# Sourced by tools/answers, tools/library and tools/check, with the repository's folder in root: messages, and a run of rt with short progress.
 # shellcheck shell=sh disable=SC2154
 
 say() { printf '%s: %s\n' "${0##*/}" "$*" >&2; }
