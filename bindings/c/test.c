@@ -205,7 +205,8 @@ struct refused_book {
     int line;
 };
 
-/* A book that all three calls refuse alike, or only the later ones: `passes` counts those before. */
+/* A book that is refused by all four calls, or accepted by the first ones: so many of read and
+   order accept it, with these numbers of names and rules. */
 static void try_refused(const struct refused_book *book, unsigned passes, uint64_t names,
                         uint64_t rules)
 {
@@ -335,7 +336,7 @@ static void try_questions(void)
         {2, (const uint8_t[]){0}, 1, 0, 0},          {0, parts, 1024, 0, 1},
         {0, parts, 1025, 13, 0},                     {8, parts, 1, 14, 0},
         {8, parts, 0, 13, 0},                        {0, (const uint8_t[]){0, 255}, 2, 14, 0},
-        {0, (const uint8_t[]){0, 255}, 1, 0, 1},
+        {0, (const uint8_t[]){0, 255}, 1, 0, 1},     {2, parts, 1024, 0, 0},
     };
 
     for (size_t i = 0; i < sizeof asked / sizeof asked[0]; i++) {

@@ -237,6 +237,7 @@ fn questions_that_are_refused() {
     let tables = Tables::of(&HALL).unwrap();
     let longest = [PART; 1024];
     assert_eq!(tables.ask(PART, &longest), Ok(true));
+    assert_eq!(tables.ask(SITS, &longest), Ok(false));
     let longer = [PART; 1025];
     assert_eq!(tables.ask(PART, &longer), refused(Cause::Chain, 0));
     assert_eq!(tables.ask(UNKNOWN, &[PART]), refused(Cause::Role, 0));

@@ -105,28 +105,25 @@ pub const LIMIT: &[Met] = &[
     Met::Refused("ask", 12),
     Met::Refused("ask", 13),
     Met::Refused("ask", 14),
+    Met::Counted("limits of heads"),
+    Met::Counted("limits of the numbers of moves"),
+    Met::Counted("limits of a move"),
+    Met::Counted("limits of the links"),
+    Met::Counted("limits of roles"),
 ];
 
 /// A graph with one thing at or just past a limit; at times a second thing is wrong, and the first cause in order is the
 /// answer.
 pub fn limit(trial: &mut Trial, random: &mut Random) {
     let mut question = draw(random);
-    match random.below(9) {
+    let what = match random.below(9) {
         0 | 1 => heads_at_limit(&mut question, random),
         2 | 3 => length_at_limit(&mut question, random),
         4..=6 => move_at_limit(&mut question, random),
-        7 => {
-            let length = random.pick(&[0, 1, MOST_LINKS, MOST_LINKS + 1, 2000]);
-            question.chain.resize(length, 0);
-        }
-        _ => {
-            let past = (2 * question.heads.len() + random.below(3) - 1) as u8;
-            match random.below(2) {
-                0 => question.role = past,
-                _ => question.chain[0] = past,
-            }
-        }
-    }
+        7 => chain_at_limit(&mut question, random),
+        _ => role_at_limit(&mut question, random),
+    };
+    trial.count(what, 1);
     if random.percent(30) {
         match random.below(3) {
             0 => question.role = random.byte(),
@@ -138,7 +135,7 @@ pub fn limit(trial: &mut Trial, random: &mut Random) {
 }
 
 /// The number of heads or one of them.
-fn heads_at_limit(question: &mut Question, random: &mut Random) {
+fn heads_at_limit(question: &mut Question, random: &mut Random) -> &'static str {
     if random.percent(50) {
         let length = random.pick(&[0, 1, 63, 64, 65]);
         question.heads.resize(length, 0);
@@ -146,28 +143,48 @@ fn heads_at_limit(question: &mut Question, random: &mut Random) {
         let place = random.below(question.heads.len());
         question.heads[place] = random.pick(&[2045, 2046, 2047, 2048, 0xFFFF]);
     }
+    "limits of heads"
 }
 
 /// The numbers of the moves: too many, or not in threes.
-fn length_at_limit(question: &mut Question, random: &mut Random) {
+fn length_at_limit(question: &mut Question, random: &mut Random) -> &'static str {
     let length = match random.below(2) {
         0 => random.pick(&[15357, 15360, 15361, 15362, 15363, 15366]),
         _ => question.moves.len() + random.between(1, 2),
     };
     question.moves.resize(length, 0);
+    "limits of the numbers of moves"
 }
 
 /// A state or a label of a move.
-fn move_at_limit(question: &mut Question, random: &mut Random) {
+fn move_at_limit(question: &mut Question, random: &mut Random) -> &'static str {
     let moves = question.moves.len() / 3;
     if moves == 0 {
-        return;
+        return "graphs without a move";
     }
     let part = random.below(3);
     question.moves[3 * random.below(moves) + part] = match part {
         1 => random.pick(&[127, 128, 129, 256, 0x8000, 0xFFFF]),
         _ => random.pick(&[2046, 2047, 2048, 2049, 0x8000, 0xFFFF]),
     };
+    "limits of a move"
+}
+
+/// The number of links.
+fn chain_at_limit(question: &mut Question, random: &mut Random) -> &'static str {
+    let length = random.pick(&[0, 1, MOST_LINKS, MOST_LINKS + 1, 2000]);
+    question.chain.resize(length, 0);
+    "limits of the links"
+}
+
+/// The role asked or the first link.
+fn role_at_limit(question: &mut Question, random: &mut Random) -> &'static str {
+    let past = (2 * question.heads.len() + random.below(3) - 1) as u8;
+    match random.below(2) {
+        0 => question.role = past,
+        _ => question.chain[0] = past,
+    }
+    "limits of roles"
 }
 
 pub const CYCLE: &[Met] = &[Met::Yes("ask"), Met::No("ask")];
