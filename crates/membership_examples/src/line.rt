@@ -13,7 +13,7 @@ use texts::byte;
 use texts::find;
 use texts::part;
 
-// Tries a line; whether the two methods agree where they must, and differ where they must.
+// Tries a line; whether the two methods agree where they must, and differ at a line `d`, which has two books that say different things.
 pub(crate) fn try_line(s: &[u8]) -> bool {
     let bar = find(s, 0, b'|');
     let text = part(s, 1, bar);
@@ -28,7 +28,7 @@ pub(crate) fn try_line(s: &[u8]) -> bool {
             true
         }
         b'e' => ask_every(text, numbers),
-        b'd' => ask_other(text, numbers),
+        b'd' => !ask_every(text, numbers),
         b's' => {
             line(text);
             try_made();
@@ -84,30 +84,17 @@ fn ask(text: &[u8], tables: Tables, names: usize, numbers: usize, s: &[u8], at: 
     );
 }
 
-// Every chain of up to some length, put to a book's tables and to its rules: the book, and how many questions there are. Whether the two methods
-// agree.
+// Every chain of up to some length, put to a book's tables and to a book's rules: both books, and how many questions there are. Whether the two
+// methods agree.
 fn ask_every(text: &[u8], s: &[u8]) -> bool {
     let book = read_list(s, 1);
-    let questions = read_number(s, book.next);
+    let ruled = read_list(s, book.next);
+    let questions = read_number(s, ruled.next);
     let bytes = book.bytes;
-    let own = part(&bytes, 0, book.size);
-    let trial = try_book(own, own, 0, true, questions.value, 0, [0u64; 32]);
-    let counts = trial.counts;
-    tell_every(text, counts);
-    trial.agreed
-}
-
-// The same for a book's tables and another book's rules: both books, and how many questions there are. Whether a difference is found, which shows
-// that the comparison can find one.
-fn ask_other(text: &[u8], s: &[u8]) -> bool {
-    let book = read_list(s, 1);
-    let other = read_list(s, book.next);
-    let questions = read_number(s, other.next);
-    let bytes = book.bytes;
-    let other_bytes = other.bytes;
+    let ruled_bytes = ruled.bytes;
     let trial = try_book(
         part(&bytes, 0, book.size),
-        part(&other_bytes, 0, other.size),
+        part(&ruled_bytes, 0, ruled.size),
         0,
         true,
         questions.value,
@@ -115,11 +102,7 @@ fn ask_other(text: &[u8], s: &[u8]) -> bool {
         [0u64; 32],
     );
     let counts = trial.counts;
-    tell_every(text, counts);
-    !trial.agreed
-}
-
-fn tell_every(text: &[u8], counts: [u64; 32]) {
     io::write_all(1, text);
     tell(b": asked \x89, agreed \x8A, yes \x8B\n", counts);
+    trial.agreed
 }
