@@ -14,8 +14,7 @@ fn main() {
     try_book(b"missing file: ", b"missing.rlb");
     try_book(b"overlong file: ", b"overlong.rlb");
     try_book(b"no order: ", b"cycle.rlb");
-    try_ends();
-    try_borders();
+    try_places();
     try_book(b"standard input: ", b"hall.rlb");
 }
 
@@ -34,26 +33,20 @@ fn say(text: &[u8]) {
     io::write_all(STDOUT_FILENO, text);
 }
 
-// Input that ends at every place of the questions.
-fn try_ends() {
-    let mut size = 0;
-    while size <= 26 {
-        say(b"ends after ");
-        io::print_decimal(STDOUT_FILENO, size as u64);
-        say(b": ");
-        try_blocks(&QUESTIONS, size / 2, size);
-        size += 1;
+// For every place of the questions: input that ends there, and two blocks whose border falls there.
+fn try_places() {
+    let mut place = 0;
+    while place <= 26 {
+        try_place(b"ends after ", place, place / 2, place);
+        try_place(b"border at ", place, place, 26);
+        place += 1;
     }
 }
 
-// Two blocks, with their border at every place of the questions.
-fn try_borders() {
-    let mut border = 0;
-    while border <= 26 {
-        say(b"border at ");
-        io::print_decimal(STDOUT_FILENO, border as u64);
-        say(b": ");
-        try_blocks(&QUESTIONS, border, 26);
-        border += 1;
-    }
+// Says which place is tried, and tries the first `size` bytes of the questions in two blocks.
+fn try_place(text: &[u8], place: usize, border: usize, size: usize) {
+    say(text);
+    io::print_decimal(STDOUT_FILENO, place as u64);
+    say(b": ");
+    try_blocks(&QUESTIONS, border, size);
 }
