@@ -41,6 +41,9 @@ small-front (suc n) (x ∷ q) s (suc i) = small-front n q (λ j. s (suc j)) i
 pub kept-short : (kept : ℕ) (q : List ℕ) → ((i : ℕ) → getD q i 0 < 256) → kept ≤ length q → Broken (take kept q) → kept < 65538
 kept-short kept q s h b = omega (arith, b, length-take-le kept q h, small-front kept q s 1, small-front kept q s 2)
 
+pub some-room : (a : ℕ) (q : List ℕ) → a < length q → 0 < length (take (length q - a) (drop a q))
+some-room a q h = rw (length-take-le (length q - a) (drop a q) (omega (arith, length-drop a q))) (omega (arith, h))
+
 -- the bytes that are read go behind those that are kept
 pub reads-behind : (kept : ℕ) (q part : List ℕ) (count : ℕ) → kept ≤ length q → length part ≡ length (midOf kept (length q - kept) q) → count ≤ length part
     → Reads kept q (putMid kept (length q - kept) q part) (kept + count)

@@ -13,6 +13,10 @@ use libc::STDIN_FILENO;
 use libc::STDOUT_FILENO;
 use transcriber::Tables;
 
+const LONGEST: usize = 65538;
+
+const LINES: usize = 1398144;
+
 // Why the program stops.
 pub enum Stop {
     // The book is refused, and its line is written.
@@ -66,10 +70,8 @@ fn read_book(path: &[u8], book: &mut [u8]) -> usize
 fn serve(tables: Tables) -> Stop
     ensures { λ r. ⌜ Served (Answered (heads-in tables) (moves-in tables)) r ⌝ }
 {
-    // Holds the longest question, of 65,535 links, so that what is kept leaves room to read.
-    let mut input = [0u8; 65538];
-    // A line of up to 64 bytes for every three bytes of input.
-    let mut out = [0u8; 1398144];
+    let mut input = question_buffer();
+    let mut out = line_buffer();
     let mut number = 0u64;
     let mut kept = 0;
     let mut turns = u64::MAX;
@@ -88,6 +90,20 @@ fn serve(tables: Tables) -> Stop
         turns -= 1;
     }
     Stop::Exhausted
+}
+
+// Room for the longest question, of 65,535 links, so that what is kept of one leaves room to read.
+fn question_buffer() -> [u8; LONGEST]
+    ensures { λ r. ⌜ 65538 ≡ length r ⌝ }
+{
+    [0; LONGEST]
+}
+
+// Room for the lines of as many bytes: 64 for every three of them.
+fn line_buffer() -> [u8; LINES]
+    ensures { λ r. ⌜ 1398144 ≡ length r ⌝ }
+{
+    [0; LINES]
 }
 
 // Reads once, after the bytes that are kept, which stay; answers where the bytes in the buffer end. What is kept is no whole question, so there is room.

@@ -1,10 +1,7 @@
 -- `read_more` meets its contract: what is kept is shorter than the longest question, and is not lent.
 use borrow.Author.Needs.{needs}
-use Prim.Native.Nat.{_-_}
 use native.Mathlib.Omega.{arith}
-use lib.ListN.{length, drop, length-drop}
-use lib.Seq.{length-take-le}
-use Rattle.program.specs.RanLaws.{kept-short, reads-behind}
+use Rattle.program.specs.RanLaws.{kept-short, some-room, reads-behind}
 use Rattle.program.proofs.read_more.Statement.{statement}
 use Rattle.program.proofs.read_more.Tie as tie
 
@@ -18,7 +15,9 @@ part-read-once-end : tie.Need-part-read-once-end
 part-read-once-end c = search needs
 
 read-once-requires : tie.Need-read-once-requires
-read-once-requires c κs = rw (length-take-le (length (c .before .before .args .input .now) - c .before .before .args .kept) (drop (c .before .before .args .kept) (c .before .before .args .input .now)) (omega (arith, length-drop (c .before .before .args .kept) (c .before .before .args .input .now)))) (omega (arith, c .before .before .pre .0, kept-short _ _ (λ i. omega (arith, c .before .slice-known .given i)) (c .before .before .pre .1) (c .before .before .pre .2)))
+read-once-requires c κs =
+    let short = kept-short _ _ (λ i. omega (arith, c .before .slice-known .given i)) (c .before .before .pre .1) (c .before .before .pre .2) in
+    some-room (c .before .before .args .kept) (c .before .before .args .input .now) (omega (arith, short, c .before .before .pre .0))
 
 add-result : tie.Need-add-result
 add-result c = search needs

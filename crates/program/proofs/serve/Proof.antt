@@ -1,10 +1,10 @@
 -- `serve` meets its contract: what was read is answered block after block, and what is kept goes before the next block.
 use mathlib.Core.Logic.{inl, inr}
-use mathlib.Core.Path.{_≡_, _∙_}
-use Prim.Native.Nat.{ℕ, _≤_}
+use mathlib.Core.Path.{_≡_, sym, _∙_}
+use Prim.Native.Nat.{_≤_}
 use native.Mathlib.Omega.{arith}
 use borrow.Author.Needs.{needs}
-use lib.ListN.{length, take, length-replicate}
+use lib.ListN.{length, take}
 use lib.Seq.{length-take-le}
 use Rattle.queries.specs.Query.{Answered}
 use Rattle.transcriber.specs.PutsLaws.{puts-length, puts-counts}
@@ -23,8 +23,14 @@ Inv-loop tables input₀ out₀ number₀ kept₀ turns₀ input out number kept
 abbrev μ-loop : tie.MeasureT-loop
 μ-loop tables input₀ out₀ number₀ kept₀ turns₀ input out number kept turns = turns
 
+question-buffer-requires : tie.Need-question-buffer-requires Inv-loop μ-loop
+question-buffer-requires c κs = search needs
+
+line-buffer-requires : tie.Need-line-buffer-requires Inv-loop μ-loop
+line-buffer-requires c κs = search needs
+
 loop-holds : tie.Need-loop-holds Inv-loop μ-loop
-loop-holds c = (length-replicate {A = ℕ} 65538 0, length-replicate {A = ℕ} 1398144 0, omega arith, serving-none)
+loop-holds c = (sym (c .before .question-buffer .ensures), sym (c .line-buffer .ensures), omega arith, serving-none)
 
 slice-aggregate-read-more : tie.Need-slice-aggregate-read-more Inv-loop μ-loop
 slice-aggregate-read-more c = search needs
@@ -92,6 +98,8 @@ serve-spec =
     (tie.spec
     Inv-loop
     μ-loop
+    question-buffer-requires
+    line-buffer-requires
     loop-holds
     slice-aggregate-read-more
     read-more-requires
