@@ -5,6 +5,8 @@ use mathlib.Core.Logic.{_⊎_, inl, inr}
 use mathlib.Core.Path.{_≡_, refl, sym, ap, ap₂, _∙_}
 use Prim.Native.Nat.{ℕ, zero, suc, _+_, _-_, _*_, _<_, _≤_}
 use native.Mathlib.Omega.{arith}
+use borrow.Author.Tests.{leb-true, leb-false}
+use lib.Dec.{leb}
 use lib.ListN.{length, getD, take, drop, take-append-drop, length-append, length-drop}
 use lib.Seq.{take-take, length-take-le}
 use borrow.Rule.Slice.PartMut.{putMid, midOf, take-put, same-len-mid}
@@ -14,11 +16,11 @@ use Rattle.format.specs.Result.{Result}
 use Rattle.format.specs.Result.Result.{refused, ok}
 use Rattle.causes.specs.Built.{built}
 use Rattle.queries.specs.Query.{Answered}
-use Rattle.queries.specs.Input.{Broken}
+use Rattle.queries.specs.Input.{Broken, is-whole}
 use Rattle.answers.specs.Reply.{Decided}
 use Rattle.transcripts.specs.Block.{Block, Blocks, joined}
 use Rattle.transcripts.specs.Block.Blocks.{none, more}
-use Rattle.transcripts.specs.BlockLaws.{block-all}
+use Rattle.transcripts.specs.BlockLaws.{block-counts, block-goes}
 use Rattle.transcriber.specs.declared.block.Progress.{Progress}
 use Rattle.transcriber.specs.PutsLaws.{puts-front}
 use Rattle.transcriber.specs.Advances.{Answers}
@@ -27,7 +29,7 @@ use Rattle.transcriber.specs.Opened.{heads-in, moves-in, is-ok, Opens}
 use Rattle.transcriber.specs.SessionLaws.{opened-blocks}
 use Rattle.program.specs.declared.Stop.{Stop}
 use Rattle.program.specs.declared.Stop.the-variants.{Refused, Ended, Unwritten, Exhausted}
-use Rattle.program.specs.Ran.{Serving, Served, Ran, Reads}
+use Rattle.program.specs.Ran.{Serving, Served, Ran, Reads, Ends}
 use Rattle.program.specs.Ran.Served.{ended, exhausted, unwritten}
 use Rattle.program.specs.Ran.Ran.{refuses, opened}
 
@@ -38,16 +40,21 @@ small-front (suc n) [] s i = omega arith
 small-front (suc n) (x ∷ q) s zero = s 0
 small-front (suc n) (x ∷ q) s (suc i) = small-front n q (λ j. s (suc j)) i
 
-pub kept-short : (kept : ℕ) (q : List ℕ) → ((i : ℕ) → getD q i 0 < 256) → kept ≤ length q → Broken (take kept q) → kept < 65538
-kept-short kept q s h b = omega (arith, b, length-take-le kept q h, small-front kept q s 1, small-front kept q s 2)
+pub kept-short : (kept : ℕ) (q : List ℕ) → ((i : ℕ) → getD q i 0 < 256) → kept ≤ length q → is-whole (take kept q) ≡ false → kept < 65538
+kept-short kept q s h e =
+    let b : Broken (take kept q) = leb-false _ _ e in
+    omega (arith, b, length-take-le kept q h, small-front kept q s 1, small-front kept q s 2)
 
 pub some-room : (a : ℕ) (q : List ℕ) → a < length q → 0 < length (take (length q - a) (drop a q))
 some-room a q h = rw (length-take-le (length q - a) (drop a q) (omega (arith, length-drop a q))) (omega (arith, h))
 
 -- the bytes that are read go behind those that are kept
-pub reads-behind : (kept : ℕ) (q part : List ℕ) (count : ℕ) → kept ≤ length q → length part ≡ length (midOf kept (length q - kept) q) → count ≤ length part
-    → Reads kept q (putMid kept (length q - kept) q part) (kept + count)
-reads-behind kept q part count h same l =
+pub reads-none : {left : Bool} {kept : ℕ} {q : List ℕ} → kept ≤ length q → Reads left kept q q kept
+reads-none h = record { same = refl; front = refl; after = omega arith; within = h; still = λ e. refl }
+
+pub reads-behind : {left : Bool} (kept : ℕ) (q part : List ℕ) (count : ℕ) → left ≡ false → kept ≤ length q
+    → length part ≡ length (midOf kept (length q - kept) q) → count ≤ length part → Reads left kept q (putMid kept (length q - kept) q part) (kept + count)
+reads-behind kept q part count empty h same l =
     let long : length (putMid kept (length q - kept) q part) ≡ length q = same-len-mid kept (length q - kept) q part same in
     let size : length (midOf kept (length q - kept) q) ≡ length q - kept =
     length-take-le (length q - kept) (drop kept q) (omega (arith, length-drop kept q)) in
@@ -56,7 +63,15 @@ reads-behind kept q part count h same l =
       front = take-put kept (length q - kept) q part h;
       after = omega arith;
       within = rw long (omega (arith, same, size, l, h));
+      still = λ e. absurd (true≢false (sym e ∙ empty));
     }
+
+-- whether the input has ended, by each test
+pub ends-left : {kept end : ℕ} {left : Bool} → left ≡ true → Ends kept end left false
+ends-left e = record { over = λ h. absurd (true≢false (sym h)); more = λ h. inl e }
+
+pub ends-read : (kept end : ℕ) {left : Bool} → left ≡ false → Ends kept end left (leb end kept)
+ends-read kept end e = record { over = λ h. (e, leb-true end kept h); more = λ h. inr (leb-false end kept h) }
 
 -- the bytes of one block more
 joined-after : (blocks : List (List ℕ)) (block : List ℕ) → length (joined (blocks ++ (block ∷ []))) ≡ length (joined blocks) + length block
@@ -79,51 +94,54 @@ module _ {Says : ℕ → Chain → Result Bool → Type 0} where
   blocks-after {lines′ = lines′} (more {block = earlier} {lines = first} {lines′ = rest} c cs) block b =
       rw (append-assoc first rest lines′) (more {block = earlier} c (blocks-after cs block b))
 
-  pub serving-none : Serving Says 0 [] 18446744073709551615
-  serving-none = record { blocks = []; lines = []; answered = none; left = inl (omega arith); counted = omega arith }
+  pub serving-none : Serving Says 0 [] false 18446744073709551615
+  serving-none = record { blocks = []; lines = []; answered = none; whole = refl; counted = omega arith }
 
-  serving-next : {k k′ room turns : ℕ} {kept lines rest : List ℕ} → Serving Says k kept turns → 0 < turns
-      → (block : List ℕ) → 0 < length block → Block Says k (kept ++ block) room lines k′ rest → 64 * length (kept ++ block) ≤ 3 * room
-      → Serving Says k′ rest (turns - 1)
-  serving-next {lines = lines} s some block filled b space =
+  -- each block has a byte, or a question is answered with it
+  serving-next : {k k′ room turns : ℕ} {kept lines rest : List ℕ} {left left′ : Bool} → Serving Says k kept left turns → 0 < turns
+      → (block : List ℕ) → Block Says k (kept ++ block) room lines k′ rest → (0 < length block) ⊎ (k < k′) → left′ ≡ is-whole rest
+      → Serving Says k′ rest left′ (turns - 1)
+  serving-next {k} {k′} {turns = turns} {lines = lines} s some block b goes e =
       record {
         blocks = s .blocks ++ (block ∷ []);
         lines = s .lines ++ lines;
         answered = blocks-after (s .answered) block b;
-        left = block-all b space;
-        counted = omega (arith, s .counted, joined-after (s .blocks) block);
+        whole = e;
+        counted = by-reason goes;
       }
-
-  -- while a number is left, what is kept is no whole question
-  pub serving-broken : {k turns : ℕ} {kept : List ℕ} → Serving Says k kept turns → k < 18446744073709551615 → Broken kept
-  serving-broken {k} {kept = kept} s l = by-left (s .left)
     where
-      by-left : Broken kept ⊎ (18446744073709551615 ≤ k) → Broken kept
-      by-left (inl h) = h
-      by-left (inr h) = absurd (let f : ⊥ = omega (arith, h, l) in f)
+      by-reason : (0 < length block) ⊎ (k < k′) → 18446744073709551615 ≤ length (joined (s .blocks ++ (block ∷ []))) + k′ + (turns - 1)
+      by-reason (inl h) = omega (arith, h, s .counted, some, joined-after (s .blocks) block, block-counts b)
+      by-reason (inr h) = omega (arith, h, s .counted, some, joined-after (s .blocks) block)
 
   -- why the loop ends
-  pub serving-ends : {k turns : ℕ} {kept : List ℕ} {r : Stop} → Serving Says k kept turns → k < 18446744073709551615
+  pub serving-ends : {k turns : ℕ} {kept : List ℕ} {left : Bool} {r : Stop} → Serving Says k kept left turns → left ≡ false
       → (r ≡ Ended) ⊎ (r ≡ Unwritten) → Served Says r
-  serving-ends s l (inl e) = rw e (ended (s .answered) (serving-broken s l))
+  serving-ends s l (inl e) = rw e (ended (s .answered) (leb-false _ _ (sym (s .whole) ∙ l)))
   serving-ends s l (inr e) = rw e unwritten
 
-  pub serving-exhausted : {k turns : ℕ} {kept : List ℕ} → Serving Says k kept turns → (turns ≡ 0) ⊎ (18446744073709551615 ≤ k) → Served Says Exhausted
-  serving-exhausted s (inl e) = exhausted (s .answered) (inl (omega (arith, s .counted, e)))
-  serving-exhausted s (inr h) = exhausted (s .answered) (inr h)
+  pub serving-exhausted : {k turns : ℕ} {kept : List ℕ} {left : Bool} → Serving Says k kept left turns → (turns ≡ 0) ⊎ (18446744073709551615 ≤ k)
+      → Served Says Exhausted
+  serving-exhausted s (inl e) = exhausted (s .answered) (omega (arith, s .counted, e))
+  serving-exhausted s (inr h) = exhausted (s .answered) (omega (arith, h))
 
 -- a block that is read and answered
-module _ {hs ms q q′ q″ out out′ : List ℕ} {k kept end turns : ℕ} {p : Progress} where
-  pub serving-block : Serving (Answered hs ms) k (take kept q) turns → 0 < turns → Reads kept q q′ end → kept < end
-      → Answers hs ms k q′ end out q″ out′ p → 64 * length q′ ≤ 3 * length out → Serving (Answered hs ms) (p .number) (take (p .kept) q″) (turns - 1)
-  serving-block s some r h a space =
+module _ {hs ms q q′ q″ out out′ : List ℕ} {k kept end turns : ℕ} {left : Bool} {p : Progress} where
+  pub serving-block : Serving (Answered hs ms) k (take kept q) left turns → 0 < turns → k < 18446744073709551615 → Reads left kept q q′ end
+      → (left ≡ true) ⊎ (kept < end) → Answers hs ms k q′ end out q″ out′ p → 64 ≤ length out
+      → Serving (Answered hs ms) (p .number) (take (p .kept) q″) (p .left) (turns - 1)
+  serving-block s some few r goes a space =
       let block : List ℕ = drop kept (take end q′) in
       let front : take end q′ ≡ take kept q ++ block =
       sym (take-append-drop kept (take end q′)) ∙ ap (λ (f : List ℕ). f ++ block) (take-take kept end q′ (r .after) ∙ r .front) in
       let rest : take (p .kept) q″ ≡ a .rest = puts-front q′ (a .rest) q″ 0 (p .kept) (a .keeps) in
-      rw rest
-      (serving-next s some block (omega (arith, length-drop kept (take end q′), length-take-le end q′ (r .within), h)) (rw front at (a .block))
-      (rw (← front) (omega (arith, space, length-take-le end q′ (r .within), r .within))))
+      rw rest (serving-next s some block (rw front at (a .block)) (by-reason goes) (a .left))
+    where
+      by-reason : (left ≡ true) ⊎ (kept < end) → (0 < length (drop kept (take end q′))) ⊎ (k < p .number)
+      by-reason (inr h) = inl (omega (arith, length-drop kept (take end q′), length-take-le end q′ (r .within), h))
+      by-reason (inl l) =
+          let same : take end q′ ≡ take kept q = ap (λ (n : ℕ). take n q′) (r .still l) ∙ r .front in
+          inr (block-goes (a .block) (rw same (leb-true _ _ (sym (s .whole) ∙ l))) space few)
 
 -- what opening a book says of the run
 module _ {s h m line line′ : List ℕ} {o : Opening} (p : Opens s h m line line′ o) where

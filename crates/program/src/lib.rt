@@ -5,17 +5,15 @@ ghost use mathlib.Core.Path.{_≡_};
 ghost use Prim.Native.Nat.{_<_, _≤_};
 ghost use lib.ListN.{length, take};
 ghost use Rattle.io.specs.Counts.{Counts};
-ghost use Rattle.queries.specs.Input.{Broken};
+ghost use Rattle.queries.specs.Input.{is-whole};
 ghost use Rattle.queries.specs.Query.{Answered};
 ghost use Rattle.transcriber.specs.Opened.{heads-in, moves-in};
-ghost use Rattle.program.specs.Ran.{Ran, Served, Reads};
+ghost use Rattle.program.specs.Ran.{Ran, Served, Reads, Ends};
 use libc::STDIN_FILENO;
 use libc::STDOUT_FILENO;
 use transcriber::Tables;
 
 const LONGEST: usize = 65538;
-
-const LINES: usize = 1398144;
 
 // Why the program stops.
 pub enum Stop {
@@ -71,18 +69,20 @@ fn serve(tables: Tables) -> Stop
     ensures { λ r. ⌜ Served (Answered (heads-in tables) (moves-in tables)) r ⌝ }
 {
     let mut input = question_buffer();
-    let mut out = line_buffer();
+    let mut out = [0u8; 65536];
     let mut number = 0u64;
     let mut kept = 0;
+    let mut left = false;
     let mut turns = u64::MAX;
     while 0 < turns && number < u64::MAX {
-        let end = read_more(&mut input, kept);
-        if end <= kept {
+        let end = read_more(&mut input, kept, left);
+        if ended(kept, end, left) {
             return finish(number, kept, &input);
         }
         let progress = transcriber::answer_block(tables, number, &mut input, end, &mut out);
         number = progress.number;
         kept = progress.kept;
+        left = progress.left;
         let written = progress.written;
         if !io::write_all(STDOUT_FILENO, &out[..written]) {
             return Stop::Unwritten;
@@ -99,19 +99,26 @@ fn question_buffer() -> [u8; LONGEST]
     [0; LONGEST]
 }
 
-// Room for the lines of as many bytes: 64 for every three of them.
-fn line_buffer() -> [u8; LINES]
-    ensures { λ r. ⌜ 1398144 ≡ length r ⌝ }
+// Reads once, after the bytes that are kept, which stay; answers where the bytes in the buffer end. Where a whole question is left nothing is read, since
+// whoever asked it may wait for its answer. What is no whole question leaves room to read.
+fn read_more(input: &mut [u8], kept: usize, left: bool) -> usize
+    requires { ⌜ (65538 ≤ length (now input)) × (kept ≤ length (now input)) × (left ≡ is-whole (take kept (now input))) ⌝ }
+    ensures { λ r. ⌜ Reads left kept (now (input .entry)) (now (input .exit)) r ⌝ }
 {
-    [0; LINES]
+    if left {
+        return kept;
+    }
+    kept + read_once(&mut input[kept..])
 }
 
-// Reads once, after the bytes that are kept, which stay; answers where the bytes in the buffer end. What is kept is no whole question, so there is room.
-fn read_more(input: &mut [u8], kept: usize) -> usize
-    requires { ⌜ (65538 ≤ length (now input)) × (kept ≤ length (now input)) × Broken (take kept (now input)) ⌝ }
-    ensures { λ r. ⌜ Reads kept (now (input .entry)) (now (input .exit)) r ⌝ }
+// Whether the input has ended: no whole question was left, and nothing was read.
+fn ended(kept: usize, end: usize, left: bool) -> bool
+    ensures { λ r. ⌜ Ends kept end left r ⌝ }
 {
-    kept + read_once(&mut input[kept..])
+    if left {
+        return false;
+    }
+    end <= kept
 }
 
 // Reads once to the front of a buffer; answers how many bytes, or 0 where the input has ended.

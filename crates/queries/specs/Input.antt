@@ -1,6 +1,8 @@
 -- Questions that follow one another on an input: each a role byte, the number of its links, 16 bits, low byte first, and the links.
+use mathlib.Core.Bool.{Bool}
 use mathlib.Core.List.{List}
 use Prim.Native.Nat.{ℕ, _+_, _<_, _≤_}
+use lib.Dec.{leb}
 use lib.ListN.{length}
 use Rattle.words.specs.Word.{word}
 
@@ -14,3 +16,6 @@ Whole s = 3 + links-of s ≤ length s
 
 abbrev pub Broken : List ℕ → Type 0
 Broken s = length s < 3 + links-of s
+
+abbrev pub is-whole : List ℕ → Bool
+is-whole s = leb (3 + links-of s) (length s)

@@ -5,7 +5,7 @@ use mathlib.Core.Path.{_≡_}
 use Prim.Native.Nat.{ℕ, _+_, _-_, _<_, _≤_}
 use lib.ListN.{length, take, drop}
 use Rattle.queries.specs.Query.{Answered}
-use Rattle.queries.specs.Input.{Broken}
+use Rattle.queries.specs.Input.{Broken, is-whole}
 use Rattle.transcripts.specs.Block.{Block}
 use Rattle.transcriber.specs.declared.block.Progress.{Progress}
 use Rattle.transcriber.specs.declared.block.Reached.{Reached}
@@ -21,6 +21,7 @@ module _ (hs ms : List ℕ) where
     pub block : Block (Answered hs ms) k (take end q) (length out) lines (p .number) rest
     pub puts : Puts out 0 lines out′ (p .written)
     pub keeps : Puts q 0 rest q′ (p .kept)
+    pub left : p .left ≡ is-whole rest
 
   -- the same, where the rest is left in its place
   pub record Advances (k : ℕ) (q out out′ : List ℕ) (p : Reached) : Type 0 where

@@ -1,5 +1,5 @@
 -- How the answers of a batch, run by run, and stopping give what a block promises.
-use mathlib.Core.Bool.{false}
+use mathlib.Core.Bool.{Bool, false}
 use mathlib.Core.List.{List, [], _∷_, _++_, append-assoc, append-nil}
 use mathlib.Core.Logic.{_⊎_, inl, inr}
 use mathlib.Core.Path.{_≡_, refl, sym, ap, _∙_}
@@ -12,7 +12,7 @@ use lib.Seq.{drop-drop, take-suc, take-all, take-append-le, length-take-le}
 use Rattle.roles.specs.Tests.{eq-or-ne}
 use Rattle.texts.specs.Text.{between}
 use Rattle.queries.specs.Query.{Answered}
-use Rattle.queries.specs.Input.{links-of, Broken}
+use Rattle.queries.specs.Input.{links-of, Broken, is-whole}
 use Rattle.transcripts.specs.Lines.{answer-line}
 use Rattle.transcripts.specs.LinesLaws.{line-short}
 use Rattle.transcripts.specs.Block.{Stopped, Block}
@@ -25,7 +25,7 @@ use Rattle.answerer.specs.declared.batch.Batch.{Batch}
 use Rattle.transcriber.specs.declared.block.Reached.{Reached}
 use Rattle.transcriber.specs.declared.block.Run.{Run}
 use Rattle.transcriber.specs.Puts.{Puts}
-use Rattle.transcriber.specs.PutsLaws.{puts-none, puts-then, puts-as, puts-length}
+use Rattle.transcriber.specs.PutsLaws.{puts-none, puts-then, puts-as, puts-front, puts-length}
 use Rattle.transcriber.specs.Said.{answer-lines}
 use Rattle.transcriber.specs.Advances.{Answers, Advances, Advanced, Runs}
 
@@ -191,16 +191,19 @@ pub advances-as : {hs ms hs′ ms′ q out out′ : List ℕ} {k : ℕ} {p : Rea
 advances-as e f a = rw (← e, ← f) a
 
 -- what is left of a block is moved to the front of the input
-pub answers-kept : {hs ms q out out′ q′ : List ℕ} {k end size kept : ℕ} {p : Reached} → (size ≤ length q) × (take size q ≡ take end q)
-    → Advances hs ms k (take size q) out out′ p → Puts q 0 (between (p .read) size q) q′ kept
-    → Answers hs ms k q end out q′ out′ (record { number = p .number; kept = kept; written = p .written })
-answers-kept {q = q} {size = size} {p = p} front a keeps =
+pub answers-kept : {hs ms q out out′ q′ : List ℕ} {k end size kept : ℕ} {p : Reached} {left : Bool} → (size ≤ length q) × (take size q ≡ take end q)
+    → Advances hs ms k (take size q) out out′ p → Puts q 0 (between (p .read) size q) q′ kept → left ≡ is-whole (take kept q′)
+    → Answers hs ms k q end out q′ out′ (record { number = p .number; kept = kept; written = p .written; left = left })
+answers-kept {q = q} {q′ = q′} {size = size} {kept = kept} {p = p} front a keeps e =
     let long : length (take size q) ≡ size = length-take-le size q (front .0) in
     let inside : p .read ≤ size = rw (← long) (a .within) in
+    let rest : List ℕ = drop (p .read) (take size q) in
+    let moved : Puts q 0 rest q′ kept = puts-as keeps (rw (le-leb (p .read) size inside, le-leb size (length q) (front .0)) refl) in
     record {
       lines = a .lines;
-      rest = drop (p .read) (take size q);
+      rest = rest;
       block = rw (← front .1) (a .block);
       puts = a .puts;
-      keeps = puts-as keeps (rw (le-leb (p .read) size inside, le-leb size (length q) (front .0)) refl);
+      keeps = moved;
+      left = e ∙ ap is-whole (puts-front q rest q′ 0 kept moved);
     }

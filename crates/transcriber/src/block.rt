@@ -8,12 +8,15 @@ ghost use Rattle.transcriber.specs.Opened.{heads-in, moves-in};
 ghost use Rattle.transcriber.specs.Advances.{Advances, Answers, Runs};
 use crate::line::put_answers;
 use crate::opening::Tables;
+use crate::question::is_whole;
 
-// How far a block is answered: the number of the next question, how many bytes are kept for it at the front of the input, and how many are written.
+// How far a block is answered: the number of the next question, how many bytes are kept for it at the front of the input, how many are written, and
+// whether a whole question is left, for which there is no room.
 pub struct Progress {
     pub number: u64,
     pub kept: usize,
     pub written: usize,
+    pub left: bool,
 }
 
 // Answers the whole questions at the front of the input's first `end` bytes, a line each, numbered from `number` on, while 64 bytes are left for a line.
@@ -27,13 +30,22 @@ pub fn answer_block(
 ) -> Progress
     ensures { λ r. ⌜ Answers (heads-in tables) (moves-in tables) number (now (input .entry)) end (now (out .entry)) (now (input .exit)) (now (out .exit)) r ⌝ }
 {
+    let heads = tables.heads;
+    let moves = tables.moves;
     let size = front_size(input, end);
-    let reached = answer_front(tables, number, &input[..size], out);
-    let read = reached.read;
+    let reached = answer_each(
+        first(&heads, tables.names),
+        triples(&moves, tables.transitions),
+        number,
+        &input[..size],
+        out,
+    );
+    let kept = keep(input, reached.read, size);
     Progress {
         number: reached.number,
-        kept: keep(input, read, size),
+        kept: kept,
         written: reached.written,
+        left: is_whole(&input[..kept]),
     }
 }
 
@@ -52,23 +64,6 @@ struct Reached {
     number: u64,
     read: usize,
     written: usize,
-}
-
-// Answers the whole questions at the front of the input by the tables, as many as there is room for.
-fn answer_front(tables: Tables, number: u64, input: &[u8], out: &mut [u8]) -> Reached
-    ensures { λ r. ⌜ Advances (heads-in tables) (moves-in tables) number (now (input .entry)) (now (out .entry)) (now (out .exit)) r ⌝ }
-{
-    let heads = tables.heads;
-    let moves = tables.moves;
-    let names = tables.names;
-    let transitions = tables.transitions;
-    answer_each(
-        first(&heads, names),
-        triples(&moves, transitions),
-        number,
-        input,
-        out,
-    )
 }
 
 // The first numbers of a table, as many as there are up to the count.

@@ -15,7 +15,6 @@ use Rattle.causes.specs.Built.{states-of, count-of, built}
 use Rattle.queries.specs.Input.{links-of, Whole, Broken}
 use Rattle.answers.specs.Reply.{Decided}
 use Rattle.transcripts.specs.Lines.{first-line, answer-line}
-use Rattle.transcripts.specs.LinesLaws.{line-short}
 use Rattle.transcripts.specs.Transcript.{next, Transcript, Session}
 use Rattle.transcripts.specs.Transcript.Next.{nothing, part, whole}
 use Rattle.transcripts.specs.Transcript.Transcript.{ended, cut, answered as line}
@@ -57,17 +56,6 @@ next-on q later r w after e = by-length (lt-or-le (length q) (3 + links-of q))
         let chain : w ≡ take (links-of q) (drop 3 q) = cc in
         let rest : after ≡ drop (3 + links-of q) q = cc in
         rw (role, chain, rest) (next-whole q later h)
-
--- a question takes three bytes or more
-next-shorter : (q : List ℕ) (r : ℕ) (w : Chain) (after : List ℕ) → next q ≡ whole r w after → 3 + length after ≤ length q
-next-shorter q r w after e = by-length (lt-or-le (length q) (3 + links-of q))
-  where
-    by-length : Broken q ⊎ Whole q → 3 + length after ≤ length q
-    by-length (inl h) = absurd (broken-whole q r w after h e)
-    by-length (inr h) =
-        let f : whole r w after ≡ whole (getD q 0 0) (take (links-of q) (drop 3 q)) (drop (3 + links-of q) q) = sym e ∙ next-here q h in
-        let rest : after ≡ drop (3 + links-of q) q = cc in
-        rw rest (omega (arith, h, length-drop (3 + links-of q) q))
 
 module _ {Says : ℕ → Chain → Result Bool → Type 0} where
   -- the lines of what follows complete those of a block
@@ -112,12 +100,14 @@ pub session-blocks : (s : List ℕ) (b : Book) → built s 64 15360 ≡ ok b →
 session-blocks s b e {k} {lines} {kept} bs h =
     served b (lines ++ ending k kept) e (blocks-complete bs (ending k kept) (transcript-ending k kept h))
 
--- where there is room for a line for every three bytes, no whole question is left
+-- numbers go on, and a whole question with room and a number is answered
 module _ {Says : ℕ → Chain → Result Bool → Type 0} where
-  pub block-all : {k room k′ : ℕ} {q lines rest : List ℕ} → Block Says k q room lines k′ rest → 64 * length q ≤ 3 * room
-      → Broken rest ⊎ (18446744073709551615 ≤ k′)
-  block-all (stopped (no-question h)) room = inl h
-  block-all (stopped (no-room h)) room = inl (omega (arith, h, room))
-  block-all (stopped (no-number h)) room = inr h
-  block-all (answered {k} {room = space} {r = r} {q = q} {after} {w = w} {a} e h l s b) room =
-      block-all b (omega (arith, h, room, line-short k a, next-shorter q r w after e))
+  pub block-counts : {k room k′ : ℕ} {q lines rest : List ℕ} → Block Says k q room lines k′ rest → k ≤ k′
+  block-counts (stopped h) = omega arith
+  block-counts (answered e h l s b) = omega (arith, block-counts b)
+
+  pub block-goes : {k room k′ : ℕ} {q lines rest : List ℕ} → Block Says k q room lines k′ rest → Whole q → 64 ≤ room → k < 18446744073709551615 → k < k′
+  block-goes (stopped (no-question h)) w l n = absurd (let f : ⊥ = omega (arith, h, w) in f)
+  block-goes (stopped (no-room h)) w l n = absurd (let f : ⊥ = omega (arith, h, l) in f)
+  block-goes (stopped (no-number h)) w l n = absurd (let f : ⊥ = omega (arith, h, n) in f)
+  block-goes (answered e h g s b) w l n = omega (arith, block-counts b)

@@ -3,14 +3,13 @@ use mathlib.Core.Bool.{Bool, cond}
 use mathlib.Core.List.{List, [], _∷_, _++_}
 use mathlib.Core.Path.{_≡_}
 use Prim.Native.Nat.{ℕ, suc, _+_}
-use lib.Dec.{leb}
-use lib.ListN.{length, take, drop}
+use lib.ListN.{take, drop}
 use Rattle.roles.specs.Role.{Chain}
 use Rattle.roles.specs.Rule.{Book}
 use Rattle.format.specs.Result.{Result}
 use Rattle.format.specs.Result.Result.{refused, ok}
 use Rattle.causes.specs.Built.{states-of, count-of, built}
-use Rattle.queries.specs.Input.{links-of}
+use Rattle.queries.specs.Input.{links-of, is-whole}
 use Rattle.answers.specs.Reply.{Decided}
 use Rattle.transcripts.specs.Lines.{first-line, answer-line, cut-line}
 
@@ -24,7 +23,7 @@ pub data Next : Type 0 where
 unfoldable pub next : List ℕ → Next
 next [] = nothing
 next (r ∷ s) =
-    cond (leb (3 + links-of (r ∷ s)) (length (r ∷ s)))
+    cond (is-whole (r ∷ s))
     (whole r (take (links-of (r ∷ s)) (drop 3 (r ∷ s))) (drop (3 + links-of (r ∷ s)) (r ∷ s)))
     part
 

@@ -1,9 +1,13 @@
 -- `read_more` meets its contract: what is kept is shorter than the longest question, and is not lent.
 use borrow.Author.Needs.{needs}
+use mathlib.Core.Path.{sym, _∙_}
 use native.Mathlib.Omega.{arith}
-use Rattle.program.specs.RanLaws.{kept-short, some-room, reads-behind}
+use Rattle.program.specs.RanLaws.{kept-short, some-room, reads-none, reads-behind}
 use Rattle.program.proofs.read_more.Statement.{statement}
 use Rattle.program.proofs.read_more.Tie as tie
+
+returns : tie.Need-returns
+returns c = reads-none (c .before .before .pre .1)
 
 sub-read-once : tie.Need-sub-read-once
 sub-read-once c = search needs
@@ -16,8 +20,9 @@ part-read-once-end c = search needs
 
 read-once-requires : tie.Need-read-once-requires
 read-once-requires c κs =
-    let short = kept-short _ _ (λ i. omega (arith, c .before .slice-known .given i)) (c .before .before .pre .1) (c .before .before .pre .2) in
-    some-room (c .before .before .args .kept) (c .before .before .args .input .now) (omega (arith, short, c .before .before .pre .0))
+    let broken = sym (c .before .before .before .pre .2) ∙ (c .before .if1 .left) in
+    let short = kept-short _ _ (λ i. omega (arith, c .before .before .slice-known .given i)) (c .before .before .before .pre .1) broken in
+    some-room (c .before .before .before .args .kept) (c .before .before .before .args .input .now) (omega (arith, short, c .before .before .before .pre .0))
 
 add-result : tie.Need-add-result
 add-result c = search needs
@@ -25,17 +30,18 @@ add-result c = search needs
 same-length : tie.Need-same-length
 same-length c = search needs
 
-returns : tie.Need-returns
-returns c = reads-behind _ _ (c .before .before .read-once .last .0) _ (c .before .before .before .before .before .pre .1) (search needs) (c .before .before .read-once .ensures)
+returns-2 : tie.Need-returns-2
+returns-2 c = reads-behind _ _ (c .before .before .read-once .last .0) _ (c .before .before .before .before .if1 .left) (c .before .before .before .before .before .before .pre .1) (search needs) (c .before .before .read-once .ensures)
 
 pub read-more-spec : {M : Type 1} → statement M
 read-more-spec =
     tie.close
     (tie.spec
+    returns
     sub-read-once
     part-read-once-start
     part-read-once-end
     read-once-requires
     add-result
     same-length
-    returns)
+    returns-2)

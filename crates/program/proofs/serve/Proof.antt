@@ -1,51 +1,50 @@
 -- `serve` meets its contract: what was read is answered block after block, and what is kept goes before the next block.
 use mathlib.Core.Logic.{inl, inr}
 use mathlib.Core.Path.{_≡_, sym, _∙_}
-use Prim.Native.Nat.{_≤_}
+use Prim.Native.Nat.{ℕ, _≤_}
 use native.Mathlib.Omega.{arith}
 use borrow.Author.Needs.{needs}
-use lib.ListN.{length, take}
-use lib.Seq.{length-take-le}
+use lib.ListN.{length, take, length-replicate}
 use Rattle.queries.specs.Query.{Answered}
 use Rattle.transcriber.specs.PutsLaws.{puts-length, puts-counts}
 use Rattle.transcriber.specs.Opened.{heads-in, moves-in}
 use Rattle.program.specs.Ran.{Serving}
 use Rattle.program.specs.Ran.Served.{unwritten}
-use Rattle.program.specs.RanLaws.{serving-none, serving-block, serving-broken, serving-ends, serving-exhausted}
+use Rattle.program.specs.RanLaws.{serving-none, serving-block, serving-ends, serving-exhausted}
 use Rattle.program.proofs.serve.Statement.{statement}
 use Rattle.program.proofs.serve.Tie as tie
 
 abbrev Inv-loop : tie.InvT-loop
-Inv-loop tables input₀ out₀ number₀ kept₀ turns₀ input out number kept turns =
-    (length input ≡ 65538) × (length out ≡ 1398144) × (kept ≤ length input)
-    × Serving (Answered (heads-in tables) (moves-in tables)) number (take kept input) turns
+Inv-loop tables input₀ out₀ number₀ kept₀ left₀ turns₀ input out number kept left turns =
+    (length input ≡ 65538) × (length out ≡ 65536) × (kept ≤ length input)
+    × Serving (Answered (heads-in tables) (moves-in tables)) number (take kept input) left turns
 
 abbrev μ-loop : tie.MeasureT-loop
-μ-loop tables input₀ out₀ number₀ kept₀ turns₀ input out number kept turns = turns
+μ-loop tables input₀ out₀ number₀ kept₀ left₀ turns₀ input out number kept left turns = turns
 
 question-buffer-requires : tie.Need-question-buffer-requires Inv-loop μ-loop
 question-buffer-requires c κs = search needs
 
-line-buffer-requires : tie.Need-line-buffer-requires Inv-loop μ-loop
-line-buffer-requires c κs = search needs
-
 loop-holds : tie.Need-loop-holds Inv-loop μ-loop
-loop-holds c = (sym (c .before .question-buffer .ensures), sym (c .line-buffer .ensures), omega arith, serving-none)
+loop-holds c = (sym (c .question-buffer .ensures), length-replicate {A = ℕ} 65536 0, omega arith, serving-none)
 
 slice-aggregate-read-more : tie.Need-slice-aggregate-read-more Inv-loop μ-loop
 slice-aggregate-read-more c = search needs
 
 read-more-requires : tie.Need-read-more-requires Inv-loop μ-loop
-read-more-requires c κs = (omega (arith, c .before .before .before .loop .inv .0), c .before .before .before .loop .inv .2, serving-broken (c .before .before .before .loop .inv .3) (search needs))
+read-more-requires c κs = (omega (arith, c .before .before .before .loop .inv .0), c .before .before .before .loop .inv .2, c .before .before .before .loop .inv .3 .whole)
+
+ended-requires : tie.Need-ended-requires Inv-loop μ-loop
+ended-requires c κs = search needs
 
 slice-aggregate-finish : tie.Need-slice-aggregate-finish Inv-loop μ-loop
 slice-aggregate-finish c = search needs
 
 finish-requires : tie.Need-finish-requires Inv-loop μ-loop
-finish-requires c κs = rw (c .before .before .before .read-more .ensures .same) (c .before .before .before .before .before .before .before .loop .inv .2)
+finish-requires c κs = rw (c .before .before .before .before .read-more .ensures .same) (c .before .before .before .before .before .before .before .before .loop .inv .2)
 
 returns : tie.Need-returns Inv-loop μ-loop
-returns c = serving-ends (c .before .before .before .before .before .before .before .before .loop .inv .3) (search needs) (c .finish .ensures)
+returns c = serving-ends (c .before .before .before .before .before .before .before .before .before .loop .inv .3) (c .before .before .before .ended .ensures .over (c .before .before .if2 .taken) .0) (c .finish .ensures)
 
 slice-aggregate-answer-block : tie.Need-slice-aggregate-answer-block Inv-loop μ-loop
 slice-aggregate-answer-block c = search needs
@@ -76,14 +75,14 @@ loop-less c = search needs
 
 loop-again : tie.Need-loop-again Inv-loop μ-loop
 loop-again c =
-    let read = c .before .before .before .before .before .before .before .before .before .before .read-more .ensures in
+    let read = c .before .before .before .before .before .before .before .before .before .before .before .read-more .ensures in
+    let goes = c .before .before .before .before .before .before .before .before .before .ended .ensures .more (c .before .before .before .before .before .before .before .before .if2 .left) in
     let answer = c .before .before .before .before .before .answer-block .ensures in
-    let size = c .before .before .before .before .before .before .before .before .before .before .before .before .before .before .loop .inv .0 in
-    let room = c .before .before .before .before .before .before .before .before .before .before .before .before .before .before .loop .inv .1 in (
-      puts-length _ _ _ _ _ (answer .keeps) ∙ read .same ∙ size,
+    let room = c .before .before .before .before .before .before .before .before .before .before .before .before .before .before .before .loop .inv .1 in (
+      puts-length _ _ _ _ _ (answer .keeps) ∙ read .same ∙ c .before .before .before .before .before .before .before .before .before .before .before .before .before .before .before .loop .inv .0,
       puts-length _ _ _ _ _ (answer .puts) ∙ room,
       puts-counts (answer .keeps) .0,
-      serving-block (c .before .before .before .before .before .before .before .before .before .before .before .before .before .before .loop .inv .3) (search needs) read (search needs) answer (omega (arith, read .same, size, room)),
+      serving-block (c .before .before .before .before .before .before .before .before .before .before .before .before .before .before .before .loop .inv .3) (search needs) (search needs) read goes answer (omega (arith, room)),
     )
 
 returns-3 : tie.Need-returns-3 Inv-loop μ-loop
@@ -99,10 +98,10 @@ serve-spec =
     Inv-loop
     μ-loop
     question-buffer-requires
-    line-buffer-requires
     loop-holds
     slice-aggregate-read-more
     read-more-requires
+    ended-requires
     slice-aggregate-finish
     finish-requires
     returns
