@@ -24,7 +24,7 @@ use Rattle.answers.specs.Reply.{Decided, Replied, posed}
 use Rattle.answers.specs.Reply.Decided.{refuses, yes, no}
 use Rattle.answers.specs.Reply.Replied.{refuses as refused-by-book, settled}
 
--- a role that a question is accepted for
+-- a role that a question passes for
 own-role : (n r : ℕ) (w : Chain) → question n r w ≡ ok tt → r < 2 * n
 own-role n r w h =
     named-link n (r ∷ w) (demand-test (named n (r ∷ w)) 14 0 _ tt (demand-rest (chain-fits w) 13 0 _ tt h)) zero (omega arith)

@@ -131,7 +131,7 @@ getD-first-rules s (suc m) k d h = by-place (λ (p : k < m). getD-first-rules s 
         let e : k ≡ m = omega arith in
         rw e (getD-at (first-rules s m) (rule-at s (rule-place s m)) [] d m (length-first-rules s m))
 
--- what is known of a book whose reading from rule k on is accepted with m rules left
+-- what is known of a book whose reading from rule k on passes with m rules left
 pub record Laid (s : List ℕ) (n k m : ℕ) (b : Book) : Type 0 where
   pub names : b .names ≡ n
   pub rules : b .rules ≡ first-rules s (k + m)

@@ -1,4 +1,4 @@
--- Laws of results: what an accepted result says of the checks before it.
+-- Laws of results: what a result without refusal says of the checks before it.
 use mathlib.Core.Bool.{Bool, true, false}
 use mathlib.Core.Path.{_≡_, refl}
 use Prim.Native.Nat.{ℕ}

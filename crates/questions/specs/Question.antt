@@ -13,7 +13,7 @@ cause-of Tables = 12
 cause-of Chain = 13
 cause-of Role = 14
 
--- accepted, or the refusal by its number; the value beside it is 0
+-- passed, or the refusal by its number; the value beside it is 0
 abbrev pub says : Question → Result (Unit {0})
 says Fits = ok tt
 says (Refused refusal) = refused (cause-of refusal) 0
