@@ -18,7 +18,7 @@ use Rattle.roles.specs.Tests.{eq-or-ne}
 use Rattle.order.specs.Regular.{Regular}
 use Rattle.tables.specs.Tables.{Transition, transitions, numbers}
 use Rattle.format.specs.Result.{Result}
-use Rattle.format.specs.Result.Result.{refused, ok}
+use Rattle.format.specs.Result.Result.{ok}
 use Rattle.format.specs.ResultLaws.{refused-ok}
 use Rattle.format.specs.Format.{read, named}
 use Rattle.format.specs.ReadLaws.{read-names, read-some-name, read-few-names}

@@ -1,13 +1,13 @@
 -- Questions put to the tables of an accepted book are answered as demand 3 says, and can be judged before these are built.
 use mathlib.Core.Bool.{Bool}
 use mathlib.Core.List.{List, _∷_}
-use mathlib.Core.Path.{_≡_, refl, sym, ap, _∙_, subst}
+use mathlib.Core.Path.{_≡_, refl, sym, ap, _∙_}
 use Prim.Native.Nat.{ℕ, zero, _*_, _<_}
 use native.Mathlib.Omega.{arith}
 use lib.ListN.{getD}
 use Rattle.roles.specs.Role.{Chain}
 use Rattle.roles.specs.Rule.{Book}
-use Rattle.format.specs.Result.{Result, demand, and-then}
+use Rattle.format.specs.Result.{Result, and-then}
 use Rattle.format.specs.Result.Result.{refused, ok}
 use Rattle.format.specs.ResultLaws.{demand-test, demand-rest}
 use Rattle.format.specs.Format.{named}

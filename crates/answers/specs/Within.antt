@@ -4,7 +4,7 @@ use mathlib.Core.List.List·Memᴰ.{List·Memᴰ·head, List·Memᴰ·tail}
 use mathlib.Core.Path.{refl}
 use Prim.Native.Nat.{ℕ, zero, suc, _+_, _*_, _<_, _≤_}
 use native.Mathlib.Omega.{arith}
-use Rattle.roles.specs.Role.{Chain, inv}
+use Rattle.roles.specs.Role.{Chain}
 use Rattle.roles.specs.Rule.{Rule}
 use Rattle.roles.specs.Named.{Named}
 use Rattle.order.specs.Shape.{End, Shape}

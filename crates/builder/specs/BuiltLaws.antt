@@ -12,7 +12,6 @@ use lib.ListN.{length, drop}
 use lib.Seq.{sets, sets-eq}
 use Rattle.roles.specs.Tests.{and-left, and-right, lt-or-le}
 use Rattle.roles.specs.Rule.{Book}
-use Rattle.tables.specs.Tables.{numbers}
 use Rattle.format.specs.Result.Result.{refused, ok}
 use Rattle.causes.specs.Built.{states-of, count-of, heads-of, moves-of, accepted, built, over}
 use Rattle.causes.specs.BuiltLaws.{accepted-states, accepted-count, accepted-ok, built-short, accepted-built}

@@ -1,10 +1,10 @@
 // Lays the fragments of roles depth first: numbers for their states, and their transitions in the order of document 01.
-ghost use mathlib.Core.Bool.{Bool, true, false, cond};
+ghost use mathlib.Core.Bool.{true, false};
 ghost use mathlib.Core.List.{List, [], _∷_};
 ghost use mathlib.Core.Path.{_≡_};
 ghost use Prim.Native.Nat.{ℕ, _+_, _*_, _<_, _≤_};
 ghost use lib.ListN.{length, getD, set};
-ghost use Rattle.roles.specs.Role.{Chain, turn};
+ghost use Rattle.roles.specs.Role.{turn};
 ghost use Rattle.roles.specs.Role.{name as name-of};
 ghost use Rattle.roles.specs.Rule.{Rule};
 ghost use Rattle.tables.specs.Tables.{state, own-shapes, has-symmetric, has-transitive};

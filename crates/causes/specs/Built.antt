@@ -1,5 +1,5 @@
 -- Causes 9 to 11: when a book is accepted, and when it is built in lent tables of some lengths, with what a build writes there.
-use mathlib.Core.Bool.{Bool, _&&_}
+use mathlib.Core.Bool.{_&&_}
 use mathlib.Core.List.{List, _++_}
 use Prim.Native.Nat.{ℕ, _*_}
 use lib.Dec.{leb}

@@ -9,7 +9,7 @@ use borrow.Author.Tests.{le-leb, lt-leb, leb-true}
 use lib.Dec.{leb}
 use Rattle.roles.specs.Tests.{and-left, and-right}
 use Rattle.roles.specs.Rule.{Book}
-use Rattle.format.specs.Result.{Result, demand, and-then}
+use Rattle.format.specs.Result.{Result, and-then}
 use Rattle.format.specs.Result.Result.{refused, ok}
 use Rattle.format.specs.ResultLaws.{refused-ok, ok-injective, demand-test, demand-rest}
 use Rattle.format.specs.ReadLaws.{read-few-names}

@@ -2,7 +2,6 @@
 -- exactly where a regular order exists and else names the last rule of the shortest front part that has none.
 use mathlib.Core.Bool.{Bool, not}
 use mathlib.Core.List.{List, [], _∷_}
-use mathlib.Core.Path.{_≡_}
 use Prim.Native.Nat.{ℕ, suc, _<_, _≤_}
 use lib.ListN.{length, take}
 use Rattle.roles.specs.Rule.{Rule, Book}

@@ -1,21 +1,18 @@
 -- The gathered order judges as document 01 asks, and its run as a loop makes it.
 use mathlib.Core.Bool.{Bool, true, false, not}
-use mathlib.Core.List.{List, [], _∷_, _++_, append-nil, append-assoc, List·Memᴰ, List·Memᴰ·head, List·Memᴰ·tail, Memᴰ·append-left, Memᴰ·append-right}
-use mathlib.Core.Logic.{_⊎_, inl, inr}
+use mathlib.Core.List.{List, [], _∷_, _++_, append-nil, append-assoc, List·Memᴰ, List·Memᴰ·head, List·Memᴰ·tail}
 use mathlib.Core.Path.{_≡_, refl, sym, ap, _∙_, subst}
-use Prim.Native.Nat.{ℕ, zero, suc, _+_, _<_, _≤_}
+use Prim.Native.Nat.{ℕ, suc, _+_, _<_, _≤_}
 use native.Mathlib.Omega.{arith}
 use lib.ListN.{length, take, drop, take-append-drop, length-append}
-use lib.Seq.{take-append-le, take-at, take-length}
-use Rattle.roles.specs.Tests.{true-or-false}
+use lib.Seq.{take-append-le, take-at}
 use Rattle.roles.specs.Rule.{Rule, Book}
 use Rattle.order.specs.Regular.{Regular}
 use Rattle.order.specs.Closure.{no-order, with-rule, clashes}
 use Rattle.order.specs.ClosureLaws.{Closed, closed-none, closed-with}
 use Rattle.order.specs.Decide.{closed-regular, clash-irregular, regular-front}
-use Rattle.format.specs.Result.{Result, demand}
-use Rattle.format.specs.Result.Result.{refused, ok}
-use Rattle.causes.specs.Ordered.{order-from, ordered, Judged}
+use Rattle.format.specs.Result.{demand}
+use Rattle.causes.specs.Ordered.{order-from, Judged}
 use Rattle.causes.specs.Ordered.Judged.{has-order, none}
 
 -- a front part of a front part

@@ -12,7 +12,6 @@ use Rattle.roles.specs.Rule.{Rule}
 use Rattle.roles.specs.Named.{Named}
 use Rattle.roles.specs.Derivation.{Derives}
 use Rattle.order.specs.Regular.{Regular}
-use Rattle.order.specs.Leveled.{Leveled}
 use Rattle.order.specs.LeveledLaws.{regular-leveled}
 use Rattle.tables.specs.Tables.{initial-states, transitions}
 use Rattle.tables.specs.Path.{Path}

@@ -3,11 +3,11 @@ use mathlib.Core.Bool.{Bool, true, false, cond, true≢false}
 use mathlib.Core.List.{List, _∷_}
 use mathlib.Core.Path.{_≡_, refl, sym, ap, _∙_}
 use native.Mathlib.Omega.{arith}
-use Prim.Native.Nat.{ℕ, _+_, _-_, _<_, _≤_}
+use Prim.Native.Nat.{ℕ, _+_, _-_, _≤_}
 use native.Mathlib.Nat.{add-sub-cancel-left}
 use lib.ListN.{length, take, drop}
 use Rattle.format.specs.Format.{named}
-use Rattle.format.specs.Place.{size-at, next-at, whole-at, rule-at, rule-place}
+use Rattle.format.specs.Place.{next-at, whole-at, rule-at, rule-place}
 use Rattle.format.specs.FormatLaws.{Whole, whole-true, whole-false, whole-facts, place-next}
 use Rattle.cursor.specs.declared.Cursor.{Cursor}
 use Rattle.cursor.specs.declared.Entry.{Entry}

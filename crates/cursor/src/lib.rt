@@ -1,6 +1,5 @@
 // A place in a book's bytes, by value, that hands out one rule after another.
 ghost use mathlib.Core.Path.{_≡_};
-ghost use Rattle.format.specs.Place.{rule-place};
 ghost use Rattle.cursor.specs.Cursor.{step-at};
 
 pub struct Cursor {

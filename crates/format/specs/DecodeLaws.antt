@@ -1,14 +1,14 @@
 -- What causes 1 to 6 settle: the facts about the bytes of a book that passes them.
-use mathlib.Core.Bool.{Bool, true, false, cond, _&&_, false≢true}
+use mathlib.Core.Bool.{true, false, _&&_, false≢true}
 use mathlib.Core.List.{List, [], _∷_}
 use mathlib.Core.Path.{_≡_, refl, sym, ap, _∙_}
-use Prim.Native.Nat.{ℕ, zero, suc, _+_, _<_, _≤_}
+use Prim.Native.Nat.{ℕ, zero, _<_, _≤_}
 use native.Mathlib.Nat.{zero-add}
 use native.Mathlib.Omega.{arith}
 use borrow.Author.Needs.{zero≤}
 use borrow.Author.Tests.{leb-true, ltb-true, ltb-false}
-use lib.Dec.{leb, eqb}
-use lib.ListN.{length, getD, take, drop, List·getD-eq-default}
+use lib.Dec.{leb}
+use lib.ListN.{length, getD, drop, List·getD-eq-default}
 use Rattle.roles.specs.Tests.{and-left, and-right}
 use Rattle.roles.specs.Rule.{Rule, Book}
 use Rattle.words.specs.Word.{word}

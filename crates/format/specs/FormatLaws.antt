@@ -3,21 +3,20 @@ use mathlib.Core.Bool.{Bool, true, false, cond, _&&_}
 use mathlib.Core.List.{List, [], _∷_, _++_}
 use mathlib.Core.Logic.{_⊎_, inl, inr}
 use mathlib.Core.Path.{_≡_, refl, sym, ap, _∙_}
-use Prim.Native.Nat.{ℕ, zero, suc, _+_, _-_, _*_, _<_, _≤_}
+use Prim.Native.Nat.{ℕ, zero, suc, _+_, _-_, _<_, _≤_}
 use native.Mathlib.Nat.{add-zero, not-suc-le-zero}
 use native.Mathlib.Numerals.{add-one, add-two}
 use native.Mathlib.Omega.{arith}
-use borrow.Author.Tests.{le-leb, lt-leb, leb-true, leb-false}
-use lib.Dec.{leb, ltb, eqb}
-use lib.ListN.{length, getD, take, drop, length-append, length-drop, drop-of-length-le, List·getD-append}
+use borrow.Author.Tests.{le-leb, lt-leb, leb-true}
+use lib.Dec.{leb}
+use lib.ListN.{length, getD, drop, length-append, length-drop, drop-of-length-le, List·getD-append}
 use lib.Seq.{drop-cons, drop-drop, getD-at}
 use Rattle.roles.specs.Tests.{and-left, and-right, not-true-false, true-or-false, lt-or-le, eq-or-ne}
 use Rattle.roles.specs.Rule.{Rule, Book}
-use Rattle.format.specs.Result.{Result, demand}
 use Rattle.format.specs.Result.Result.{refused, ok}
-use Rattle.format.specs.ResultLaws.{refused-ok, ok-injective, demand-test, demand-rest}
+use Rattle.format.specs.ResultLaws.{refused-ok, ok-injective}
 use Rattle.format.specs.Format
-use Rattle.format.specs.Format.{Front, front, one-rule, rules-from, named}
+use Rattle.format.specs.Format.{front, one-rule, rules-from, named}
 use Rattle.format.specs.Format.Front.{whole, malformed}
 use Rattle.format.specs.Place.{size-at, next-at, rule-at, whole-at, rule-place, first-rules}
 

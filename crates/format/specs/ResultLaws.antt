@@ -3,7 +3,7 @@ use mathlib.Core.Bool.{Bool, true, false}
 use mathlib.Core.Path.{_≡_, refl}
 use Prim.Native.Nat.{ℕ}
 use native.Mathlib.Omega.{arith}
-use Rattle.format.specs.Result.{Result, demand, and-then, map-result}
+use Rattle.format.specs.Result.{Result, demand}
 use Rattle.format.specs.Result.Result.{refused, ok}
 
 module _ {A : Type 0} where

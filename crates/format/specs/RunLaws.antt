@@ -1,17 +1,15 @@
 -- The reading of the rules as a loop runs it: what is left to read from rule k on, and how one more rule changes that.
 use mathlib.Core.Bool.{true, false}
-use mathlib.Core.List.{List, [], _∷_, _++_}
-use mathlib.Core.Path.{_≡_, refl, sym, ap, _∙_}
-use Prim.Native.Nat.{ℕ, zero, suc, _+_, _-_, _<_, _≤_}
+use mathlib.Core.List.{List, [], _∷_}
+use mathlib.Core.Path.{_≡_, refl, _∙_}
+use Prim.Native.Nat.{ℕ, suc, _+_, _-_, _<_, _≤_}
 use native.Mathlib.Numerals.{add-one}
 use native.Mathlib.Nat.{sub-self, sub-zero}
 use native.Mathlib.Omega.{arith}
 use lib.ListN.{length, drop}
-use Rattle.roles.specs.Rule.{Rule, Book}
-use Rattle.format.specs.Result.{Result}
 use Rattle.format.specs.Result.Result.{refused, ok}
 use Rattle.format.specs.Format.{rules-from, named}
-use Rattle.format.specs.Place.{next-at, rule-at, whole-at, rule-place, first-rules}
+use Rattle.format.specs.Place.{rule-at, whole-at, rule-place, first-rules}
 use Rattle.format.specs.FormatLaws.{rules-cut, rules-undeclared, rules-next, rules-after, rules-end, length-first-rules}
 
 -- the whole reading is the one from rule k on, after the rules before it

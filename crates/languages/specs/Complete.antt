@@ -1,12 +1,10 @@
 -- What is derived from a role is read by its machine, where levels fit the rules: each role reads at its own level.
-use mathlib.Core.List.{List, [], _∷_, _++_, map, List·Memᴰ, List·Memᴰ·append-cases, Memᴰ·of-map}
-use mathlib.Core.Logic.{_⊎_, inl, inr}
-use mathlib.Core.Path.{_≡_, subst}
+use mathlib.Core.List.{List, [], _∷_, _++_, List·Memᴰ}
 use mathlib.Mathlib.Logic.Relation.{ReflTransGenᴰ·head-induction-on}
 use Prim.Native.Nat.{ℕ, suc}
 use Rattle.roles.specs.Role.{Chain, name}
 use Rattle.roles.specs.RoleLaws.{name-inv}
-use Rattle.roles.specs.Rule.{Rule, inverse, completion}
+use Rattle.roles.specs.Rule.{Rule, completion}
 use Rattle.roles.specs.Derivation.{Step, Derives}
 use Rattle.roles.specs.Derivation.Step.{replace}
 use Rattle.order.specs.Shape.{Shape, shape}

@@ -4,7 +4,7 @@ use mathlib.Core.Logic.{_⊎_, inl, inr}
 use mathlib.Core.Path.{_≡_, refl, subst}
 use Prim.Native.Nat.{ℕ, _<_}
 use native.Mathlib.Omega.{arith}
-use Rattle.roles.specs.Role.{Chain, name, inv, inv-chain}
+use Rattle.roles.specs.Role.{Chain, name, inv}
 use Rattle.roles.specs.RoleLaws.{name-inv}
 use Rattle.roles.specs.Rule.{Rule, inverse, completion}
 use Rattle.order.specs.Shape.{Shape, shape}

@@ -1,12 +1,12 @@
 -- How many transitions tables have: at most five for each two states.
 use mathlib.Core.Bool.{Bool, true, false, cond}
-use mathlib.Core.List.{List, [], _∷_, _++_, List·Memᴰ, List·Memᴰ·append-cases}
+use mathlib.Core.List.{List, [], _∷_, List·Memᴰ}
 use mathlib.Core.List.List·Memᴰ.{List·Memᴰ·head, List·Memᴰ·tail}
 use mathlib.Core.Path.{_≡_, refl}
-use Prim.Native.Nat.{ℕ, zero, suc, _+_, _*_, _<_, _≤_}
+use Prim.Native.Nat.{ℕ, zero, suc, _+_, _*_, _≤_}
 use native.Mathlib.Omega.{arith}
 use lib.ListN.{length, length-append}
-use Rattle.roles.specs.Role.{Chain, name, inv}
+use Rattle.roles.specs.Role.{Chain, inv}
 use Rattle.roles.specs.Rule.{Rule}
 use Rattle.order.specs.Shape.{End, Shape}
 use Rattle.order.specs.Shape.Shape.{transitive, symmetric, row}

@@ -2,20 +2,18 @@
 use mathlib.Core.Bool.{Bool, true, false, _||_}
 use mathlib.Core.List.{List, [], _∷_, List·Memᴰ}
 use mathlib.Core.List.List·Memᴰ.{List·Memᴰ·head, List·Memᴰ·tail}
-use mathlib.Core.Path.{_≡_, refl, sym, ap, _∙_, subst}
-use Prim.Native.Nat.{ℕ, zero, suc, _+_, _*_, _<_, _≤_}
+use mathlib.Core.Path.{_≡_, refl, ap, _∙_}
+use Prim.Native.Nat.{ℕ, zero, suc, _<_, _≤_}
 use native.Mathlib.Nat.{not-suc-le-zero, le-of-suc-le-suc}
 use native.Mathlib.Omega.{arith}
-use lib.ListN.{length, getD, drop, drop-of-length-le}
-use Rattle.roles.specs.Role.{Chain, name}
+use lib.ListN.{length, drop, drop-of-length-le}
+use Rattle.roles.specs.Role.{name}
 use Rattle.roles.specs.Rule.{Rule}
 use Rattle.order.specs.Shape.{Shape, shape}
-use Rattle.order.specs.ShapeForms.{AllApart}
-use Rattle.order.specs.Leveled.{Fits}
 use Rattle.languages.specs.Shapes.{fits-apart}
 use Rattle.tables.specs.Tables.{rules-of, own-shapes}
 use Rattle.layout.specs.Own.{facing, Apart-rules}
-use Rattle.layout.specs.Linked.{no-rule, rule, Link, own-at}
+use Rattle.layout.specs.Linked.{rule, Link, own-at}
 use Rattle.layout.specs.Indexed.{Indexed, next-in, first-in, level-in}
 
 -- k is a rule of name x, or 256

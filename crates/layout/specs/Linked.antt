@@ -1,14 +1,14 @@
 -- The rules of each right name linked in book order: from a rule on, the next rule of a name, or 256 where there is none.
-use mathlib.Core.List.{List, [], _∷_, List·Memᴰ}
+use mathlib.Core.List.{List, [], _∷_}
 use mathlib.Core.Path.{_≡_, refl, sym, ap, _∙_}
-use Prim.Native.Nat.{ℕ, suc, _+_, _<_, _≤_}
+use Prim.Native.Nat.{ℕ, suc, _<_, _≤_}
 use native.Mathlib.Nat.{le-refl}
 use native.Mathlib.Omega.{arith}
 use lib.ListN.{length, getD, drop, drop-of-length-le}
 use lib.Seq.{drop-cons}
 use Rattle.roles.specs.Role.{name}
 use Rattle.roles.specs.Rule.{Rule}
-use Rattle.order.specs.Shape.{Shape, shape}
+use Rattle.order.specs.Shape.{shape}
 use Rattle.order.specs.ShapeForms.{AllApart}
 use Rattle.tables.specs.Tables.{own-shapes}
 use Rattle.layout.specs.Own.{facing, own-other, own-same}

@@ -1,19 +1,19 @@
 -- The shapes of a role's own rules, rule by rule: a rule of another right name adds none; one of the same name adds its shape, turned round
 -- where its right role is the inverse.
 use mathlib.Core.Bool.{Bool, true, false, cond, _||_, or-self}
-use mathlib.Core.List.{List, [], _∷_, _++_, map, List·Memᴰ}
+use mathlib.Core.List.{List, [], _∷_, _++_, List·Memᴰ}
 use mathlib.Core.List.List·Memᴰ.{List·Memᴰ·head, List·Memᴰ·tail}
 use mathlib.Core.Logic.{_⊎_, inl, inr}
 use mathlib.Core.Path.{_≡_, refl, sym, ap, _∙_}
-use Prim.Native.Nat.{ℕ, _<_}
+use Prim.Native.Nat.{ℕ}
 use native.Mathlib.Omega.{arith}
 use borrow.Author.Tests.{eq-eqb, ne-eqb}
 use lib.Dec.{eqb}
 use Rattle.roles.specs.Tests.{eq-or-ne}
-use Rattle.roles.specs.Role.{Chain, name, inv}
+use Rattle.roles.specs.Role.{name, inv}
 use Rattle.roles.specs.RoleLaws.{name-inv, same-name, inv-inv}
-use Rattle.roles.specs.Rule.{Rule, inverse}
-use Rattle.order.specs.Shape.{End, Shape, shape}
+use Rattle.roles.specs.Rule.{Rule}
+use Rattle.order.specs.Shape.{Shape, shape}
 use Rattle.order.specs.Shape.Shape.{transitive, symmetric, row}
 use Rattle.order.specs.ShapeForms.{turned, AllApart, shape-inverse}
 use Rattle.tables.specs.Tables.{rules-of, own-shapes, shapes, has-symmetric, has-transitive}

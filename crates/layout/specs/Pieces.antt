@@ -1,16 +1,16 @@
 -- The transitions of a fragment in the pieces that a builder lays: rows of some shapes and then of others; three numbers for each transition.
 use mathlib.Core.Bool.{Bool, true, false, cond, false≢true}
-use mathlib.Core.List.{List, [], _∷_, _++_, append-assoc, append-nil}
-use mathlib.Core.Path.{_≡_, refl, sym, ap, _∙_}
+use mathlib.Core.List.{List, [], _∷_, _++_, append-assoc}
+use mathlib.Core.Path.{_≡_, refl, sym, ap}
 use Prim.Native.Nat.{ℕ, zero, suc, _+_, _*_}
 use native.Mathlib.Nat.{add-zero, add-assoc}
 use native.Mathlib.Omega.{arith}
-use lib.ListN.{length, length-append}
-use Rattle.roles.specs.Role.{Chain, inv}
+use lib.ListN.{length}
+use Rattle.roles.specs.Role.{inv}
 use Rattle.roles.specs.Rule.{Rule}
 use Rattle.order.specs.Shape.{Shape}
 use Rattle.order.specs.Shape.Shape.{transitive, symmetric, row}
-use Rattle.tables.specs.Tables.{Transition, state, own-shapes, shapes, has-symmetric, has-transitive, rows-size, row-size, rows-transitions, row-transitions, size-of, roots-from, numbers}
+use Rattle.tables.specs.Tables.{Transition, state, own-shapes, shapes, has-symmetric, rows-size, row-size, rows-transitions, row-transitions, size-of, roots-from, numbers}
 
 pub numbers-append : (ms ns : List Transition) → numbers (ms ++ ns) ≡ numbers ms ++ numbers ns
 unfolding numbers

@@ -2,12 +2,12 @@
 use mathlib.Core.List.{List, [], List·Memᴰ}
 use mathlib.Core.Logic.{_⊎_, inl, inr}
 use mathlib.Core.Path.{_≡_, subst}
-use Prim.Native.Nat.{ℕ, _*_, _≤_}
+use Prim.Native.Nat.{ℕ, _≤_}
 use native.Mathlib.Omega.{arith}
 use lib.ListN.{length}
-use Rattle.roles.specs.Role.{Chain, name, inv}
+use Rattle.roles.specs.Role.{name, inv}
 use Rattle.roles.specs.Rule.{Rule}
-use Rattle.order.specs.Shape.{End, Shape, shape}
+use Rattle.order.specs.Shape.{Shape, shape}
 use Rattle.order.specs.Shape.Shape.{symmetric, row}
 use Rattle.order.specs.Leveled.{Fits}
 use Rattle.languages.specs.Shapes.{completed-fits}

@@ -1,7 +1,7 @@
 -- The order that rules force on names, gathered rule by rule: which names are lower than which after each rule, and whether the next rule
 -- would put a name below itself.
-use mathlib.Core.Bool.{Bool, true, false, _&&_, _||_}
-use mathlib.Core.List.{List, [], _∷_}
+use mathlib.Core.Bool.{Bool, false, _&&_, _||_}
+use mathlib.Core.List.{[], _∷_}
 use Prim.Native.Nat.{ℕ}
 use lib.Dec.{eqb}
 use Rattle.roles.specs.Role.{Chain, name}

@@ -3,18 +3,18 @@
 use mathlib.Core.Bool.{Bool, true, false}
 use mathlib.Core.List.{List, [], _∷_, _++_, append-nil, append-assoc, List·Memᴰ, List·Memᴰ·head, Memᴰ·append-left, Memᴰ·append-right}
 use mathlib.Core.Logic.{_⊎_, inl, inr, _↔_}
-use mathlib.Core.Path.{_≡_, refl, sym, ap, _∙_, subst}
+use mathlib.Core.Path.{_≡_, refl, sym, _∙_, subst}
 use Prim.Native.Nat.{ℕ}
 use native.Mathlib.Omega.{arith}
 use Rattle.roles.specs.Tests.{true-or-false}
 use Rattle.roles.specs.Role.{Chain, name}
 use Rattle.roles.specs.Rule.{Rule}
-use Rattle.order.specs.Shape.{Shape, shape}
+use Rattle.order.specs.Shape.{Shape}
 use Rattle.order.specs.ShapeLaws.{View, view}
 use Rattle.order.specs.ShapeLaws.View.{is-transitive, is-symmetric, is-led, is-trailed, is-plain}
-use Rattle.order.specs.Regular.{RegularOrder, RegularOrder001, Form, Forms, holds, Regular, Regular001}
+use Rattle.order.specs.Regular.{RegularOrder, RegularOrder001, Forms, holds, Regular, Regular001}
 use Rattle.order.specs.Leveled.{Lower, NameOrder}
-use Rattle.order.specs.RoleOrder.{lower-of, Turning, turning, turning001, name-order, role-order, role-order001, role-forms}
+use Rattle.order.specs.RoleOrder.{lower-of, turning, turning001, name-order, role-order, role-order001, role-forms}
 use Rattle.order.specs.Closure.{no-order, with-rule, clashes}
 use Rattle.order.specs.ClosureLaws.{Closed, closed-none, closed-with, clash-forced, forced-lower}
 

@@ -2,9 +2,9 @@
 use mathlib.Core.List.{List, [], List·Memᴰ}
 use mathlib.Core.Path.{_≡_}
 use Prim.Native.Nat.{ℕ, _<_}
-use Rattle.roles.specs.Role.{Chain, name}
+use Rattle.roles.specs.Role.{name}
 use Rattle.roles.specs.Rule.{Rule}
-use Rattle.order.specs.Shape.{End, Shape, shape}
+use Rattle.order.specs.Shape.{Shape, shape}
 use Rattle.order.specs.Shape.Shape.{transitive, symmetric, row}
 
 -- the inner roles of a shape are some, and their names lower than x

@@ -1,13 +1,13 @@
 -- Rules that have a regular order have levels: the level of a name is how many names are lower.
-use mathlib.Core.Bool.{Bool, true, false, true≢false}
+use mathlib.Core.Bool.{Bool, true, false}
 use mathlib.Core.List.{List, [], _∷_, List·Memᴰ, List·Memᴰ·not-nil}
-use mathlib.Core.List.List·Memᴰ.{List·Memᴰ·head, List·Memᴰ·tail}
-use mathlib.Core.List.{Memᴰ·append-left, _++_}
-use mathlib.Core.Path.{_≡_, refl, sym, ap, _∙_, subst}
-use Prim.Native.Nat.{ℕ, zero, suc, _+_, _*_, _<_, _≤_}
+use mathlib.Core.List.List·Memᴰ.{List·Memᴰ·tail}
+use mathlib.Core.List.{Memᴰ·append-left}
+use mathlib.Core.Path.{_≡_, refl}
+use Prim.Native.Nat.{ℕ, zero, suc, _*_, _<_}
 use native.Mathlib.Omega.{arith}
 use Rattle.roles.specs.Tests.{not-true-false}
-use Rattle.roles.specs.Role.{Chain, name}
+use Rattle.roles.specs.Role.{name}
 use Rattle.roles.specs.Rule.{Rule}
 use Rattle.roles.specs.Named.{Named}
 use Rattle.order.specs.Shape.{Shape, shape}
@@ -18,9 +18,8 @@ use Rattle.order.specs.Regular.{holds, Regular}
 use Rattle.order.specs.RoleOrder.{lower-of, turning, name-order}
 use Rattle.order.specs.Leveled.{Lower, NameOrder, Fits, Leveled}
 use Rattle.order.specs.Closure.{inner-of}
-use Rattle.order.specs.ClosureLaws.{Closed}
 use Rattle.order.specs.Decide.{order-closed}
-use Rattle.order.specs.Mask.{bit, count}
+use Rattle.order.specs.Mask.{count}
 use Rattle.order.specs.MaskLaws.{count-lt}
 
 -- the inner roles of a rule are among its left roles

@@ -1,20 +1,16 @@
 -- Between orders on roles and orders on names: both papers' regular orders give an order on names, and an order on names gives both.
-use mathlib.Core.Bool.{Bool, true}
-use mathlib.Core.List.{List, [], _∷_, _++_, List·Memᴰ, List·Memᴰ·head, List·Memᴰ·tail, Memᴰ·append-right, append-cancel-right, head-eq-of-cons-eq, tail-eq-of-cons-eq, concat-ne-nil}
-use mathlib.Core.Logic.{_⊎_, inl, inr, _↔_}
-use mathlib.Core.Path.{_≡_, refl, sym, ap, _∙_, subst, subst₂}
+use mathlib.Core.List.{List, [], _∷_, _++_, List·Memᴰ, List·Memᴰ·head, Memᴰ·append-right, append-cancel-right, head-eq-of-cons-eq, tail-eq-of-cons-eq, concat-ne-nil}
+use mathlib.Core.Logic.{_⊎_, inl, inr}
+use mathlib.Core.Path.{_≡_, refl, sym, _∙_, subst, subst₂}
 use Prim.Native.Nat.{ℕ}
-use native.Mathlib.Omega.{arith}
-use Rattle.roles.specs.Tests.{eq-or-ne}
 use Rattle.roles.specs.Role.{Chain, name, inv}
 use Rattle.roles.specs.RoleLaws.{inv-inv, name-inv, same-name}
 use Rattle.roles.specs.Rule.{Rule}
-use Rattle.order.specs.Shape.{End, Shape, shape}
-use Rattle.order.specs.Shape.End.{initial, final}
-use Rattle.order.specs.Shape.Shape.{transitive, symmetric, row}
+use Rattle.order.specs.Shape.{Shape}
+use Rattle.order.specs.Shape.Shape.{transitive}
 use Rattle.order.specs.ShapeLaws.{View, view}
 use Rattle.order.specs.ShapeLaws.View.{is-transitive, is-symmetric, is-led, is-trailed, is-plain}
-use Rattle.order.specs.Regular.{RegularOrder, RegularOrder001, Inner, Form, Forms, holds, Regular, Regular001}
+use Rattle.order.specs.Regular.{RegularOrder, RegularOrder001, Inner, Form, Forms}
 use Rattle.order.specs.Regular.Form.{form1, form2, form3, form4, form5}
 use Rattle.order.specs.Leveled.{Lower, NameOrder}
 

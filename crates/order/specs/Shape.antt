@@ -1,7 +1,7 @@
 -- The shape of a rule, by its letters: which of the five forms of document 01 it can have, and its inner roles. The other readings of
 -- the same letters would put a role below itself or below its inverse (`ShapeLaws`).
 use mathlib.Core.Bool.{Bool, cond, _&&_}
-use mathlib.Core.List.{List, [], _∷_}
+use mathlib.Core.List.{[], _∷_}
 use Prim.Native.Nat.{ℕ, _-_}
 use lib.Dec.{leb, eqb}
 use lib.ListN.{length, getD, take, drop}

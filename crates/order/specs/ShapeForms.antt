@@ -1,6 +1,6 @@
 -- The shape of a rule by its form, where no inner role has the right role's name; and the shape of the inverse of a rule: the same row,
 -- inverted, between the states turned round.
-use mathlib.Core.Bool.{Bool, true, false, cond}
+use mathlib.Core.Bool.{false, cond}
 use mathlib.Core.List.{List, [], _∷_, _++_, head-eq-of-cons-eq, List·Memᴰ}
 use mathlib.Core.List.{List·Memᴰ·append-cases, List·Memᴰ·not-nil, List·Memᴰ·eq-of-singleton, Memᴰ·append-right}
 use mathlib.Core.List.List·Memᴰ.{List·Memᴰ·head, List·Memᴰ·tail}
@@ -11,7 +11,7 @@ use native.Mathlib.Omega.{arith}
 use lib.ListN.{length, take, drop, length-append}
 use lib.Seq.{take-append-seam}
 use Rattle.roles.specs.Tests.{not-true-false}
-use Rattle.roles.specs.Role.{Chain, name, inv, inv-chain, same-chain}
+use Rattle.roles.specs.Role.{Chain, name, inv, inv-chain}
 use Rattle.roles.specs.RoleLaws.{inv-inv, name-inv, inv-chain-nil, inv-chain-one, inv-chain-cons, inv-chain-append, inv-chain-inv-chain}
 use Rattle.roles.specs.RoleLaws.{same-chain-complete, same-chain-differ}
 use Rattle.roles.specs.Rule.{Rule, inverse}

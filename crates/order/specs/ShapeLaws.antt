@@ -1,18 +1,18 @@
 -- What the shape of a rule says of its left side.
-use mathlib.Core.Bool.{Bool, true, false, cond, _&&_, true≢false}
-use mathlib.Core.List.{List, [], _∷_, _++_}
-use mathlib.Core.Path.{_≡_, refl, sym, ap, ap₂, _∙_}
-use Prim.Native.Nat.{ℕ, zero, suc, _+_, _-_, _<_, _≤_}
+use mathlib.Core.Bool.{Bool, true, false, cond, true≢false}
+use mathlib.Core.List.{[], _∷_, _++_}
+use mathlib.Core.Path.{_≡_, refl, sym, ap, _∙_}
+use Prim.Native.Nat.{ℕ, suc, _+_, _-_, _≤_}
 use native.Mathlib.Omega.{arith}
 use borrow.Author.Tests.{leb-true, le-leb, eqb-true, eq-eqb}
 use lib.Dec.{leb, eqb}
-use lib.ListN.{length, getD, take, drop, take-append-drop, length-append, length-take}
-use lib.Seq.{take-suc, take-length, drop-cons, getD-append-seam}
+use lib.ListN.{length, getD, take, drop, length-append, length-take}
+use lib.Seq.{take-suc, take-length, getD-append-seam}
 use Rattle.roles.specs.Tests.{and-left, and-right, and-intro}
 use Rattle.roles.specs.Role.{Chain, inv, same-chain}
 use Rattle.roles.specs.RoleLaws.{same-chain-sound, same-chain-complete}
 use Rattle.roles.specs.Rule.{Rule}
-use Rattle.order.specs.Shape.{End, Shape, shape, leads, trails}
+use Rattle.order.specs.Shape.{Shape, shape, leads, trails}
 use Rattle.order.specs.Shape.End.{initial, final}
 use Rattle.order.specs.Shape.Shape.{transitive, symmetric, row}
 

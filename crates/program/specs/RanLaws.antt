@@ -2,8 +2,8 @@
 use mathlib.Core.Bool.{Bool, true, false, true≢false}
 use mathlib.Core.List.{List, [], _∷_, _++_, append-assoc, append-nil}
 use mathlib.Core.Logic.{_⊎_, inl, inr}
-use mathlib.Core.Path.{_≡_, refl, sym, ap, ap₂, _∙_}
-use Prim.Native.Nat.{ℕ, zero, suc, _+_, _-_, _*_, _<_, _≤_}
+use mathlib.Core.Path.{_≡_, refl, sym, ap, _∙_}
+use Prim.Native.Nat.{ℕ, zero, suc, _+_, _-_, _<_, _≤_}
 use native.Mathlib.Omega.{arith}
 use borrow.Author.Tests.{leb-true, leb-false}
 use lib.Dec.{leb}
@@ -23,7 +23,7 @@ use Rattle.transcripts.specs.Block.Blocks.{none, more}
 use Rattle.transcripts.specs.BlockLaws.{block-counts, block-goes}
 use Rattle.transcriber.specs.declared.block.Progress.{Progress}
 use Rattle.transcriber.specs.PutsLaws.{puts-front}
-use Rattle.transcriber.specs.Advances.{Answers}
+use Rattle.transcriber.specs.Advances.{AnswersBlock}
 use Rattle.transcriber.specs.declared.opening.Opening.{Opening}
 use Rattle.transcriber.specs.Opened.{heads-in, moves-in, is-ok, Opens}
 use Rattle.transcriber.specs.SessionLaws.{opened-blocks}
@@ -128,7 +128,7 @@ module _ {Says : ℕ → Chain → Result Bool → Type 0} where
 -- a block that is read and answered
 module _ {hs ms q q′ q″ out out′ : List ℕ} {k kept end turns : ℕ} {left : Bool} {p : Progress} where
   pub serving-block : Serving (Answered hs ms) k (take kept q) left turns → 0 < turns → k < 18446744073709551615 → Reads left kept q q′ end
-      → (left ≡ true) ⊎ (kept < end) → Answers hs ms k q′ end out q″ out′ p → 64 ≤ length out
+      → (left ≡ true) ⊎ (kept < end) → AnswersBlock hs ms k q′ end out q″ out′ p → 64 ≤ length out
       → Serving (Answered hs ms) (p .number) (take (p .kept) q″) (p .left) (turns - 1)
   serving-block s some few r goes a space =
       let block : List ℕ = drop kept (take end q′) in

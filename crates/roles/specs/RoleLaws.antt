@@ -1,17 +1,17 @@
 -- Laws of roles and chains: the inverse undoes itself and keeps the name; the test of two chains is equality.
-use mathlib.Core.Bool.{Bool, true, false, _&&_, false≢true}
-use mathlib.Core.List.{List, [], _∷_, _++_, map, reverse, reverse-cons, append-nil, append-assoc}
+use mathlib.Core.Bool.{Bool, true, false, false≢true}
+use mathlib.Core.List.{List, [], _∷_, _++_, map, reverse-cons, append-nil, append-assoc}
 use mathlib.Core.Path.{_≡_, refl, sym, ap, ap₂, _∙_}
-use Prim.Native.Nat.{ℕ, zero, suc, _+_, _-_, _*_, _<_, _≤_}
+use Prim.Native.Nat.{ℕ, suc, _+_, _-_, _*_, _<_, _≤_}
 use native.Mathlib.Omega.{arith}
-use borrow.Author.Tests.{eqb-true, eq-eqb, ne-eqb}
+use borrow.Author.Tests.{eqb-true, eq-eqb}
 use lib.Dec.{eqb}
-use lib.ListN.{length, getD, length-append, length-map, length-reverse, List·getD-append, List·getD-map}
+use lib.ListN.{length, getD, length-map, length-reverse, List·getD-append}
 use lib.Seq.{getD-append-add}
 use mathlib.Core.Logic.{_⊎_, inl, inr}
 use native.Mathlib.Nat.{not-suc-le-zero}
 use Rattle.roles.specs.Tests.{and-left, and-right, not-true-false, lt-or-le, eq-or-ne}
-use Rattle.roles.specs.Role.{Chain, name, polarity, inv, inv-chain, turn, same-chain}
+use Rattle.roles.specs.Role.{Chain, name, inv, inv-chain, turn, same-chain}
 
 pub inv-inv : (r : ℕ) → inv (inv r) ≡ r
 unfolding inv

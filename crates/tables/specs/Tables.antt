@@ -1,7 +1,7 @@
 -- The tables of a book as lists (document 01, "Tables"): for each role a fragment (document 01: a copy of the role), an automaton of two states
 -- and, for each inner role of its rules, an inner fragment (an inner copy). The roots, a fragment for each name (root copies), stand in name
 -- order. State numbers are given depth first; transitions stand in the order that document 01 lays down.
-use mathlib.Core.Bool.{Bool, true, false, cond, _||_}
+use mathlib.Core.Bool.{Bool, true, false, cond}
 use mathlib.Core.List.{List, [], _∷_, _++_, map}
 use Prim.Native.Nat.{ℕ, zero, suc, _+_, _*_}
 use lib.Dec.{eqb}

@@ -15,7 +15,7 @@ use Rattle.transcriber.specs.Puts.{Puts}
 module _ (hs ms : List ℕ) where
   -- the block of the first `end` bytes of q is answered by the tables hs and ms: its lines stand at the front of the one buffer, what is not answered at
   -- the front of the other, and all else in both is as it was. `OneBlock` shows that this settles the lines and the rest
-  pub record Answers (k : ℕ) (q : List ℕ) (end : ℕ) (out q′ out′ : List ℕ) (p : Progress) : Type 0 where
+  pub record AnswersBlock (k : ℕ) (q : List ℕ) (end : ℕ) (out q′ out′ : List ℕ) (p : Progress) : Type 0 where
     pub lines : List ℕ
     pub rest : List ℕ
     pub block : Block (Answered hs ms) k (take end q) (length out) lines (p .number) rest

@@ -9,7 +9,6 @@ use borrow.Author.Tests.{eqb-true, eqb-false, le-leb}
 use lib.Dec.{eqb}
 use lib.ListN.{length, getD, take, drop, length-append, length-drop}
 use lib.Seq.{drop-drop, take-suc, take-all, take-append-le, length-take-le}
-use Rattle.roles.specs.Tests.{eq-or-ne}
 use Rattle.texts.specs.Text.{between}
 use Rattle.queries.specs.Query.{Answered}
 use Rattle.queries.specs.Input.{links-of, Broken, is-whole}
@@ -27,7 +26,7 @@ use Rattle.transcriber.specs.declared.block.Run.{Run}
 use Rattle.transcriber.specs.Puts.{Puts}
 use Rattle.transcriber.specs.PutsLaws.{puts-none, puts-then, puts-as, puts-front, puts-length}
 use Rattle.transcriber.specs.Said.{answer-lines}
-use Rattle.transcriber.specs.Advances.{Answers, Advances, Advanced, Runs}
+use Rattle.transcriber.specs.Advances.{AnswersBlock, Advances, Advanced, Runs}
 
 -- one more line
 lines-more : (k : ℕ) (bytes : List ℕ) (byte : ℕ) → answer-lines k (bytes ++ (byte ∷ [])) ≡ answer-lines k bytes ++ answer-line (k + length bytes) (told byte)
@@ -193,7 +192,7 @@ advances-as e f a = rw (← e, ← f) a
 -- what is left of a block is moved to the front of the input
 pub answers-kept : {hs ms q out out′ q′ : List ℕ} {k end size kept : ℕ} {p : Reached} {left : Bool} → (size ≤ length q) × (take size q ≡ take end q)
     → Advances hs ms k (take size q) out out′ p → Puts q 0 (between (p .read) size q) q′ kept → left ≡ is-whole (take kept q′)
-    → Answers hs ms k q end out q′ out′ (record { number = p .number; kept = kept; written = p .written; left = left })
+    → AnswersBlock hs ms k q end out q′ out′ (record { number = p .number; kept = kept; written = p .written; left = left })
 answers-kept {q = q} {q′ = q′} {size = size} {kept = kept} {p = p} front a keeps e =
     let long : length (take size q) ≡ size = length-take-le size q (front .0) in
     let inside : p .read ≤ size = rw (← long) (a .within) in

@@ -1,6 +1,6 @@
 -- The calls of the program, one after another, write what document 01 lays down, wherever the borders of the blocks fall: the line of the opening, the
 -- lines of each block, and the last line of what is left when the input ends.
-use mathlib.Core.Bool.{Bool, true, false, true≢false}
+use mathlib.Core.Bool.{true, false, true≢false}
 use mathlib.Core.List.{List, [], _++_}
 use mathlib.Core.Path.{_≡_, refl, sym, ap, _∙_}
 use Prim.Native.Nat.{ℕ}

@@ -5,7 +5,7 @@ ghost use lib.ListN.{length, take};
 ghost use Rattle.texts.specs.Text.{between};
 ghost use Rattle.transcriber.specs.Puts.{Puts};
 ghost use Rattle.transcriber.specs.Opened.{heads-in, moves-in};
-ghost use Rattle.transcriber.specs.Advances.{Advances, Answers, Runs};
+ghost use Rattle.transcriber.specs.Advances.{Advances, AnswersBlock, Runs};
 use crate::line::put_answers;
 use crate::opening::Tables;
 use crate::question::is_whole;
@@ -28,7 +28,7 @@ pub fn answer_block(
     end: usize,
     out: &mut [u8],
 ) -> Progress
-    ensures { λ r. ⌜ Answers (heads-in tables) (moves-in tables) number (now (input .entry)) end (now (out .entry)) (now (input .exit)) (now (out .exit)) r ⌝ }
+    ensures { λ r. ⌜ AnswersBlock (heads-in tables) (moves-in tables) number (now (input .entry)) end (now (out .entry)) (now (input .exit)) (now (out .exit)) r ⌝ }
 {
     let heads = tables.heads;
     let moves = tables.moves;

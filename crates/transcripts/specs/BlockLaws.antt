@@ -1,16 +1,16 @@
 -- Answering by blocks gives the lines of the joined input, whatever its blocks.
 use mathlib.Core.Bool.{Bool}
-use mathlib.Core.List.{List, [], _∷_, _++_, append-assoc, append-nil}
+use mathlib.Core.List.{List, [], _++_, append-assoc, append-nil}
 use mathlib.Core.Logic.{_⊎_, inl, inr}
-use mathlib.Core.Path.{_≡_, refl, sym, ap, ap₂, _∙_}
-use Prim.Native.Nat.{ℕ, zero, suc, _+_, _-_, _*_, _<_, _≤_}
+use mathlib.Core.Path.{_≡_, sym, _∙_}
+use Prim.Native.Nat.{ℕ, _+_, _-_, _<_, _≤_}
 use native.Mathlib.Omega.{arith}
-use lib.ListN.{length, getD, take, drop, length-append, length-drop}
+use lib.ListN.{length, getD, take, drop}
 use Rattle.roles.specs.Tests.{lt-or-le, eq-or-ne}
 use Rattle.roles.specs.Role.{Chain}
 use Rattle.roles.specs.Rule.{Book}
 use Rattle.format.specs.Result.{Result}
-use Rattle.format.specs.Result.Result.{refused, ok}
+use Rattle.format.specs.Result.Result.{ok}
 use Rattle.causes.specs.Built.{states-of, count-of, built}
 use Rattle.queries.specs.Input.{links-of, Whole, Broken}
 use Rattle.answers.specs.Reply.{Decided}

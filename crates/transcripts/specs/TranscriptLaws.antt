@@ -2,11 +2,11 @@
 use mathlib.Core.Bool.{Bool}
 use mathlib.Core.List.{List, [], _∷_, _++_}
 use mathlib.Core.Path.{_≡_, refl}
-use Prim.Native.Nat.{ℕ, suc, _+_, _*_, _<_, _≤_}
+use Prim.Native.Nat.{ℕ, suc, _+_, _*_, _≤_}
 use native.Mathlib.Omega.{arith}
 use borrow.Author.Tests.{le-leb, lt-leb}
 use lib.ListN.{length, getD, take, drop, length-append}
-use lib.Seq.{take-append-le, drop-append-le, drop-drop}
+use lib.Seq.{take-append-le, drop-append-le}
 use Rattle.roles.specs.Role.{Chain}
 use Rattle.format.specs.Result.{Result}
 use Rattle.queries.specs.Input.{links-of, Whole, Broken}
