@@ -23,7 +23,7 @@ pub enum Stop {
     Ended,
     // A line cannot be written.
     Unwritten,
-    // No block or no question of a number of 64 bits is left.
+    // 2^64 - 1 bytes are read and questions answered.
     Exhausted,
 }
 
