@@ -6,7 +6,7 @@ use mathlib.Core.Path.{_≡_, refl, sym, _∙_, subst}
 use Prim.Native.Nat.{ℕ}
 use borrow.Author.Tests.{eqb-true, eq-eqb}
 use lib.Dec.{eqb}
-use Rattle.roles.specs.Tests.{and-left, and-right, and-intro, or-cases, or-left, or-right}
+use Rattle.base.specs.Truth.{and-left, and-right, and-intro, or-cases, or-left, or-right}
 use Rattle.roles.specs.Role.{Chain, name}
 use Rattle.roles.specs.Rule.{Rule}
 use Rattle.order.specs.Shape.{Shape, shape}

@@ -6,7 +6,7 @@ use mathlib.Core.Logic.{_⊎_, inl, inr, _↔_}
 use mathlib.Core.Path.{_≡_, refl, sym, _∙_, subst}
 use Prim.Native.Nat.{ℕ}
 use native.Mathlib.Omega.{arith}
-use Rattle.roles.specs.Tests.{true-or-false}
+use Rattle.base.specs.Truth.{true-or-false}
 use Rattle.roles.specs.Role.{Chain, name}
 use Rattle.roles.specs.Rule.{Rule}
 use Rattle.order.specs.Shape.{Shape}

@@ -6,7 +6,7 @@ use mathlib.Core.List.{Memᴰ·append-left}
 use mathlib.Core.Path.{_≡_, refl}
 use Prim.Native.Nat.{ℕ, zero, suc, _*_, _<_}
 use native.Mathlib.Omega.{arith}
-use Rattle.roles.specs.Tests.{not-true-false}
+use Rattle.base.specs.Truth.{not-true-false}
 use Rattle.roles.specs.Role.{name}
 use Rattle.roles.specs.Rule.{Rule}
 use Rattle.roles.specs.Named.{Named}
@@ -19,8 +19,8 @@ use Rattle.order.specs.RoleOrder.{lower-of, turning, name-order}
 use Rattle.order.specs.Leveled.{Lower, NameOrder, Fits, Leveled}
 use Rattle.order.specs.Closure.{inner-of}
 use Rattle.order.specs.Decide.{order-closed}
-use Rattle.order.specs.Mask.{count}
-use Rattle.order.specs.MaskLaws.{count-lt}
+use Rattle.name_sets.specs.Mask.{count}
+use Rattle.name_sets.specs.MaskLaws.{count-lt}
 
 -- the inner roles of a rule are among its left roles
 pub inner-left : (ρ : Rule) (s : ℕ) → List·Memᴰ s (inner-of (shape ρ)) → List·Memᴰ s (ρ .left)

@@ -7,11 +7,5 @@ pub mod RoleOrder
 pub mod Closure
 pub mod ClosureLaws
 pub mod Decide
-pub mod Mask
-pub mod MaskLaws
 pub mod LeveledLaws
-pub mod ReachLaws
-pub mod AbsorbLaws
 pub mod ShapeTests
-pub mod CountLaws
-pub mod LevelLaws

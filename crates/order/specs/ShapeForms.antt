@@ -10,7 +10,7 @@ use Prim.Native.Nat.{ℕ, suc, _-_}
 use native.Mathlib.Omega.{arith}
 use lib.ListN.{length, take, drop, length-append}
 use lib.Seq.{take-append-seam}
-use Rattle.roles.specs.Tests.{not-true-false}
+use Rattle.base.specs.Truth.{not-true-false}
 use Rattle.roles.specs.Role.{Chain, name, inv, inv-chain}
 use Rattle.roles.specs.RoleLaws.{inv-inv, name-inv, inv-chain-nil, inv-chain-one, inv-chain-cons, inv-chain-append, inv-chain-inv-chain}
 use Rattle.roles.specs.RoleLaws.{same-chain-complete, same-chain-differ}

@@ -8,7 +8,7 @@ use borrow.Author.Tests.{leb-true, le-leb, eqb-true, eq-eqb}
 use lib.Dec.{leb, eqb}
 use lib.ListN.{length, getD, take, drop, length-append, length-take}
 use lib.Seq.{take-suc, take-length, getD-append-seam}
-use Rattle.roles.specs.Tests.{and-left, and-right, and-intro}
+use Rattle.base.specs.Truth.{and-left, and-right, and-intro}
 use Rattle.roles.specs.Role.{Chain, inv, same-chain}
 use Rattle.roles.specs.RoleLaws.{same-chain-sound, same-chain-complete}
 use Rattle.roles.specs.Rule.{Rule}

@@ -8,7 +8,7 @@ use borrow.Author.Tests.{le-leb, lt-leb, eq-eqb, ne-eqb}
 use lib.ListN.{length, getD, take, drop}
 use Rattle.roles.specs.Role.{Chain, inv, same-chain}
 use Rattle.roles.specs.RoleLaws.{same-chain-complete, same-chain-differ}
-use Rattle.roles.specs.PartLaws.{link-differs}
+use Rattle.roles.specs.ChainParts.{link-differs}
 use Rattle.order.specs.Shape.{shape, leads, trails}
 use Rattle.order.specs.Shape.End.{initial, final}
 use Rattle.order.specs.Shape.Shape.{transitive, symmetric, row}

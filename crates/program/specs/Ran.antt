@@ -7,12 +7,12 @@ use Prim.Native.Nat.{ℕ, _+_, _<_, _≤_}
 use lib.ListN.{length, take}
 use Rattle.roles.specs.Role.{Chain}
 use Rattle.roles.specs.Rule.{Book}
-use Rattle.format.specs.Result.{Result}
-use Rattle.format.specs.Result.Result.{refused, ok}
-use Rattle.causes.specs.Built.{built}
-use Rattle.queries.specs.Input.{Broken, is-whole}
-use Rattle.answers.specs.Reply.{Decided}
-use Rattle.transcripts.specs.Block.{Blocks, joined}
+use Rattle.base.specs.Result.{Result}
+use Rattle.base.specs.Result.Result.{refused, ok}
+use Rattle.book_causes.specs.Accepted.{built}
+use Rattle.query_causes.specs.Input.{Broken, is-whole}
+use Rattle.query_correctness.specs.Reply.{Decided}
+use Rattle.transcript_lines.specs.Block.{Blocks, joined}
 use Rattle.program.specs.declared.Stop.{Stop}
 use Rattle.program.specs.declared.Stop.the-variants.{Refused, Ended, Unwritten, Exhausted}
 

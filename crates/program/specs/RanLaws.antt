@@ -12,21 +12,21 @@ use lib.Seq.{take-take, length-take-le}
 use borrow.Rule.Slice.PartMut.{putMid, midOf, take-put, same-len-mid}
 use Rattle.roles.specs.Role.{Chain}
 use Rattle.roles.specs.Rule.{Book}
-use Rattle.format.specs.Result.{Result}
-use Rattle.format.specs.Result.Result.{refused, ok}
-use Rattle.causes.specs.Built.{built}
-use Rattle.queries.specs.Query.{Answered}
-use Rattle.queries.specs.Input.{Broken, is-whole}
-use Rattle.answers.specs.Reply.{Decided}
-use Rattle.transcripts.specs.Block.{Block, Blocks, joined}
-use Rattle.transcripts.specs.Block.Blocks.{none, more}
-use Rattle.transcripts.specs.BlockLaws.{block-counts, block-goes}
-use Rattle.transcriber.specs.declared.block.Progress.{Progress}
-use Rattle.transcriber.specs.PutsLaws.{puts-front}
-use Rattle.transcriber.specs.Advances.{AnswersBlock}
-use Rattle.transcriber.specs.declared.opening.Opening.{Opening}
-use Rattle.transcriber.specs.Opened.{heads-in, moves-in, is-ok, Opens}
-use Rattle.transcriber.specs.SessionLaws.{opened-blocks}
+use Rattle.base.specs.Result.{Result}
+use Rattle.base.specs.Result.Result.{refused, ok}
+use Rattle.book_causes.specs.Accepted.{built}
+use Rattle.query_causes.specs.Query.{Answered}
+use Rattle.query_causes.specs.Input.{Broken, is-whole}
+use Rattle.query_correctness.specs.Reply.{Decided}
+use Rattle.transcript_lines.specs.Block.{Block, Blocks, joined}
+use Rattle.transcript_lines.specs.Block.Blocks.{none, more}
+use Rattle.transcript_lines.specs.BlockLaws.{block-counts, block-goes}
+use Rattle.transcript_writer.specs.declared.block.Progress.{Progress}
+use Rattle.transcript_writer.specs.PutsLaws.{puts-front}
+use Rattle.transcript_writer.specs.Advances.{AnswersBlock}
+use Rattle.transcript_writer.specs.declared.opening.Opening.{Opening}
+use Rattle.transcript_writer.specs.Opened.{heads-in, moves-in, is-ok, Opens}
+use Rattle.transcript_writer.specs.SessionLaws.{opened-blocks}
 use Rattle.program.specs.declared.Stop.{Stop}
 use Rattle.program.specs.declared.Stop.the-variants.{Refused, Ended, Unwritten, Exhausted}
 use Rattle.program.specs.Ran.{Serving, Served, Ran, Reads, Ends}

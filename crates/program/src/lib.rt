@@ -5,13 +5,13 @@ ghost use mathlib.Core.Path.{_≡_};
 ghost use Prim.Native.Nat.{_<_, _≤_};
 ghost use lib.ListN.{length, take};
 ghost use Rattle.io.specs.Counts.{Counts};
-ghost use Rattle.queries.specs.Input.{is-whole};
-ghost use Rattle.queries.specs.Query.{Answered};
-ghost use Rattle.transcriber.specs.Opened.{heads-in, moves-in};
+ghost use Rattle.query_causes.specs.Input.{is-whole};
+ghost use Rattle.query_causes.specs.Query.{Answered};
+ghost use Rattle.transcript_writer.specs.Opened.{heads-in, moves-in};
 ghost use Rattle.program.specs.Ran.{Ran, Served, Reads, Ends};
 use libc::STDIN_FILENO;
 use libc::STDOUT_FILENO;
-use transcriber::Tables;
+use transcript_writer::Tables;
 
 const LONGEST: usize = 65538;
 
@@ -36,7 +36,7 @@ pub fn run(path: &[u8]) -> Stop
     let mut book = [0u8; 4096];
     let mut line = [0u8; 64];
     let size = read_book(path, &mut book);
-    let opening = transcriber::open(&book[..size], &mut line);
+    let opening = transcript_writer::open(&book[..size], &mut line);
     let written = opening.written;
     if !io::write_all(STDOUT_FILENO, &line[..written]) {
         return Stop::Unwritten;
@@ -79,7 +79,7 @@ fn serve(tables: Tables) -> Stop
         if ended(kept, end, left) {
             return finish(number, kept, &input);
         }
-        let progress = transcriber::answer_block(tables, number, &mut input, end, &mut out);
+        let progress = transcript_writer::answer_block(tables, number, &mut input, end, &mut out);
         number = progress.number;
         kept = progress.kept;
         left = progress.left;
@@ -136,7 +136,7 @@ fn finish(number: u64, kept: usize, input: &[u8]) -> Stop
     ensures { λ r. ⌜ (r ≡ Stop.Ended) ⊎ (r ≡ Stop.Unwritten) ⌝ }
 {
     let mut line = [0u8; 64];
-    let size = transcriber::last_line(number, &input[..kept], &mut line);
+    let size = transcript_writer::last_line(number, &input[..kept], &mut line);
     if !io::write_all(STDOUT_FILENO, &line[..size]) {
         return Stop::Unwritten;
     }

@@ -6,12 +6,12 @@ use Prim.Native.Nat.{ℕ}
 use lib.ListN.{length}
 use Rattle.roles.specs.Role.{Chain}
 use Rattle.roles.specs.Rule.{Book}
-use Rattle.format.specs.Result.{Result, map-result}
-use Rattle.format.specs.Result.Result.{refused, ok}
-use Rattle.causes.specs.Built.{states-of, count-of, heads-of, moves-of, built, written}
-use Rattle.queries.specs.Query.{Answered}
-use Rattle.answers.specs.Reply.{Replied, posed}
-use Rattle.decoder.specs.declared.verdict.Header.{Header}
+use Rattle.base.specs.Result.{Result, map-result}
+use Rattle.base.specs.Result.Result.{refused, ok}
+use Rattle.book_causes.specs.Accepted.{states-of, count-of, heads-of, moves-of, built, written}
+use Rattle.query_causes.specs.Query.{Answered}
+use Rattle.query_correctness.specs.Reply.{Replied, posed}
+use Rattle.book_decoder.specs.declared.verdict.Header.{Header}
 
 -- two numbers told
 pub record Pair : Type 0 where

@@ -4,17 +4,17 @@ use mathlib.Core.Path.{_≡_, refl, sym, ap, subst, _∙_}
 use Prim.Native.Nat.{ℕ}
 use lib.ListN.{length}
 use Rattle.roles.specs.Role.{Chain}
-use Rattle.format.specs.Result.{Result, map-result}
-use Rattle.format.specs.Result.Result.{refused, ok}
-use Rattle.causes.specs.Built.{built}
-use Rattle.queries.specs.Query.{Answered}
-use Rattle.answerer.specs.declared.Answer.{Answer}
-use Rattle.answerer.specs.Answer as answers
-use Rattle.builder.specs.declared.Counts.{Counts}
-use Rattle.builder.specs.declared.Outcome.{Outcome}
-use Rattle.builder.specs.Built as builder
-use Rattle.deriver.specs.declared.Reply.{Reply}
-use Rattle.deriver.specs.Replies as replies
+use Rattle.base.specs.Result.{Result, map-result}
+use Rattle.base.specs.Result.Result.{refused, ok}
+use Rattle.book_causes.specs.Accepted.{built}
+use Rattle.query_causes.specs.Query.{Answered}
+use Rattle.query_answerer.specs.declared.Answer.{Answer}
+use Rattle.query_answerer.specs.Answer as answers
+use Rattle.table_builder.specs.declared.Counts.{Counts}
+use Rattle.table_builder.specs.declared.Outcome.{Outcome}
+use Rattle.table_builder.specs.Builds as builder
+use Rattle.query_deriver.specs.declared.Reply.{Reply}
+use Rattle.query_deriver.specs.Replies as replies
 use Rattle.rabbitsteel.specs.Tells.{Pair, Tells, cause-told, first-told, second-told, bit, TellsBuild, TellsAnswer, TellsDerived}
 
 -- a result tells its own numbers

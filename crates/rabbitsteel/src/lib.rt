@@ -1,24 +1,24 @@
 // The calls for programs in C and Rust, as a static library. Each returns the number of the cause that refuses its input, or 0, and stores in the
 // numbers lent to it what it tells: counts or an answer, or what document 01 gives beside the cause.
 ghost use mathlib.Core.Path.{_≡_};
-ghost use Rattle.causes.specs.Ordered.{ordered};
-ghost use Rattle.decoder.specs.Verdict.{says};
-ghost use Rattle.format.specs.Format.{read};
-ghost use Rattle.format.specs.Result.{map-result};
+ghost use Rattle.book_causes.specs.Ordered.{ordered};
+ghost use Rattle.book_decoder.specs.Verdict.{says};
+ghost use Rattle.book_format.specs.Format.{read};
+ghost use Rattle.base.specs.Result.{map-result};
 ghost use Rattle.refusals.specs.Refusal.{cause-of, value-of};
 ghost use Rattle.rabbitsteel.specs.Tells.{Tells, TellsBuild, TellsAnswer, TellsDerived, book-counts, header-counts};
-use answerer::Answer;
-use builder::Outcome;
-use decoder::Verdict;
-use deriver::Reply;
+use book_decoder::Verdict;
+use query_answerer::Answer;
+use query_deriver::Reply;
 use refusals::Refusal;
+use table_builder::Outcome;
 
 // Causes 1 to 7. Passed: how many names and how many rules the book has. Refused: the value beside the cause, and 0.
 #[no_mangle]
 pub extern "C" fn rabbitsteel_read(book: &[u8], first: &mut u64, second: &mut u64) -> u64
     ensures { λ r. ⌜ Tells (map-result book-counts (read (now (book .entry)))) r (now (first .exit)) (now (second .exit)) ⌝ }
 {
-    tell(reader::read(book), first, second)
+    tell(book_reader::read(book), first, second)
 }
 
 // Causes 1 to 8. Passed: how many names and how many rules the book has. Refused: the value beside the cause, and 0.
@@ -26,7 +26,7 @@ pub extern "C" fn rabbitsteel_read(book: &[u8], first: &mut u64, second: &mut u6
 pub extern "C" fn rabbitsteel_order(book: &[u8], first: &mut u64, second: &mut u64) -> u64
     ensures { λ r. ⌜ Tells (map-result book-counts (ordered (now (book .entry)))) r (now (first .exit)) (now (second .exit)) ⌝ }
 {
-    let ordering = orderer::order(book);
+    let ordering = order_checker::order(book);
     let verdict = ordering.verdict;
     tell(verdict, first, second)
 }
@@ -70,7 +70,7 @@ pub extern "C" fn rabbitsteel_build(
     ensures { λ r. ⌜ TellsBuild (now (book .entry)) (now (heads .entry)) (now (moves .entry)) (now (heads .exit)) (now (moves .exit)) r
         (now (first .exit)) (now (second .exit)) ⌝ }
 {
-    let outcome = builder::build(book, heads, moves);
+    let outcome = table_builder::build(book, heads, moves);
     match outcome {
         Outcome::Built(counts) => {
             *first = counts.states as u64;
@@ -95,7 +95,7 @@ pub extern "C" fn rabbitsteel_ask(
 ) -> u64
     ensures { λ r. ⌜ TellsAnswer (now (heads .entry)) (now (moves .entry)) role (now (chain .entry)) r (now (answer .exit)) ⌝ }
 {
-    let said = answerer::ask(heads, moves, role, chain);
+    let said = query_answerer::ask(heads, moves, role, chain);
     match said {
         Answer::Yes => {
             *answer = 1;
@@ -107,7 +107,7 @@ pub extern "C" fn rabbitsteel_ask(
         }
         Answer::Refused(refusal) => {
             *answer = 0;
-            questions::cause(refusal) as u64
+            query_checker::cause(refusal) as u64
         }
     }
 }
@@ -126,7 +126,7 @@ pub extern "C" fn rabbitsteel_derived(
     ensures { λ r. ⌜ TellsDerived (now (book .entry)) (now (heads .entry)) (now (moves .entry)) role (now (chain .entry)) (now (heads .exit))
         (now (moves .exit)) r (now (answer .exit)) ⌝ }
 {
-    let reply = deriver::derived(book, heads, moves, role, chain);
+    let reply = query_deriver::derived(book, heads, moves, role, chain);
     match reply {
         Reply::Yes => {
             *answer = 1;
@@ -139,7 +139,7 @@ pub extern "C" fn rabbitsteel_derived(
         Reply::Book(refusal) => refuse(refusal, answer),
         Reply::Question(refusal) => {
             *answer = 0;
-            questions::cause(refusal) as u64
+            query_checker::cause(refusal) as u64
         }
     }
 }

@@ -10,7 +10,7 @@ use lib.ListN.{length, getD, length-map, length-reverse, List·getD-append}
 use lib.Seq.{getD-append-add}
 use mathlib.Core.Logic.{_⊎_, inl, inr}
 use native.Mathlib.Nat.{not-suc-le-zero}
-use Rattle.roles.specs.Tests.{and-left, and-right, not-true-false, lt-or-le, eq-or-ne}
+use Rattle.base.specs.Truth.{and-left, and-right, not-true-false, lt-or-le, eq-or-ne}
 use Rattle.roles.specs.Role.{Chain, name, inv, inv-chain, turn, same-chain}
 
 pub inv-inv : (r : ℕ) → inv (inv r) ≡ r

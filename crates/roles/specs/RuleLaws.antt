@@ -3,7 +3,7 @@ use mathlib.Core.Bool.{true, false}
 use mathlib.Core.Path.{_≡_, refl}
 use borrow.Author.Tests.{eqb-true, eq-eqb}
 use lib.Dec.{eqb}
-use Rattle.roles.specs.Tests.{and-left, and-right, not-true-false}
+use Rattle.base.specs.Truth.{and-left, and-right, not-true-false}
 use Rattle.roles.specs.Role.{same-chain}
 use Rattle.roles.specs.RoleLaws.{inv-inv, inv-chain-inv-chain, same-chain-refl, same-chain-sound}
 use Rattle.roles.specs.Rule.{Rule, inverse, same-rule}

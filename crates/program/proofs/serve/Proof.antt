@@ -5,9 +5,9 @@ use Prim.Native.Nat.{ℕ, _≤_}
 use native.Mathlib.Omega.{arith}
 use borrow.Author.Needs.{needs}
 use lib.ListN.{length, take, length-replicate}
-use Rattle.queries.specs.Query.{Answered}
-use Rattle.transcriber.specs.PutsLaws.{puts-length, puts-counts}
-use Rattle.transcriber.specs.Opened.{heads-in, moves-in}
+use Rattle.query_causes.specs.Query.{Answered}
+use Rattle.transcript_writer.specs.PutsLaws.{puts-length, puts-counts}
+use Rattle.transcript_writer.specs.Opened.{heads-in, moves-in}
 use Rattle.program.specs.Ran.{Serving}
 use Rattle.program.specs.Ran.Served.{unwritten}
 use Rattle.program.specs.RanLaws.{serving-none, serving-block, serving-ends, serving-exhausted}

@@ -2,8 +2,8 @@
 use borrow.Author.Needs.{needs}
 use Rattle.rabbitsteel.specs.TellsLaws.{told-of}
 use Rattle.rabbitsteel.specs.Tells.{header-counts}
-use Rattle.causes.specs.Ordered.{ordered}
-use Rattle.decoder.specs.Verdict.{header-of}
+use Rattle.book_causes.specs.Ordered.{ordered}
+use Rattle.book_decoder.specs.Verdict.{header-of}
 use Rattle.rabbitsteel.proofs.rabbitsteel_order.Statement.{statement}
 use Rattle.rabbitsteel.proofs.rabbitsteel_order.Tie as tie
 

@@ -1,7 +1,0 @@
-pub mod Every
-pub mod NamedLaws
-pub mod FromRun
-pub mod Carried
-pub mod Rows
-pub mod FromPath
-pub mod Accepts

@@ -1,0 +1,7 @@
+pub mod Decides
+pub mod Every
+pub mod Truth
+pub mod Pigeonhole
+pub mod Result
+pub mod ResultLaws
+pub mod Part

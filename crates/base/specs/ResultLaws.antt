@@ -1,0 +1,22 @@
+-- Laws of results: what a result without refusal says of the checks before it.
+use mathlib.Core.Bool.{Bool, true, false}
+use mathlib.Core.Path.{_≡_, refl}
+use Prim.Native.Nat.{ℕ}
+use native.Mathlib.Omega.{arith}
+use Rattle.base.specs.Result.{Result, demand}
+use Rattle.base.specs.Result.Result.{refused, ok}
+
+module _ {A : Type 0} where
+  pub refused-ok : (c v : ℕ) (a : A) → refused c v ≡ ok a → ⊥
+  refused-ok c v a h = let z : _≡_ {A = ℕ} 0 1 = cc in omega arith
+
+  pub ok-injective : (a b : A) → ok a ≡ ok b → a ≡ b
+  ok-injective a b h = cc
+
+  pub demand-test : (t : Bool) (c v : ℕ) (rest : Result A) (a : A) → demand t c v rest ≡ ok a → t ≡ true
+  demand-test true c v rest a h = refl
+  demand-test false c v rest a h = absurd (refused-ok c v a h)
+
+  pub demand-rest : (t : Bool) (c v : ℕ) (rest : Result A) (a : A) → demand t c v rest ≡ ok a → rest ≡ ok a
+  demand-rest true c v rest a h = h
+  demand-rest false c v rest a h = absurd (refused-ok c v a h)

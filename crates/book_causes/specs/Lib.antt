@@ -1,0 +1,5 @@
+pub mod Ordered
+pub mod OrderedLaws
+pub mod Accepted
+pub mod OrderedRun
+pub mod AcceptedLaws

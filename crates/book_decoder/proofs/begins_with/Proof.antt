@@ -1,0 +1,56 @@
+-- `begins_with` meets its contract. The invariant: the bytes passed are the mark's.
+use mathlib.Core.Path.{_≡_, ap, sym}
+use Prim.Native.Nat.{ℕ, _≤_, _<_, _-_}
+use native.Mathlib.Omega.{arith}
+use borrow.Author.Count.{below-more}
+use borrow.Author.Needs.{needs}
+use lib.ListN.{length, getD}
+use Rattle.refusals.specs.Check.{check}
+use Rattle.roles.specs.ChainParts.{prefix-same, prefix-differs}
+use Rattle.book_decoder.proofs.begins_with.Statement.{statement}
+use Rattle.book_decoder.proofs.begins_with.Tie as tie
+
+abbrev Inv-loop : tie.InvT-loop
+Inv-loop book mark i₀ i = (i ≤ length mark) × ((k : ℕ) → k < i → getD book k 0 ≡ getD mark k 0)
+
+abbrev μ-loop : tie.MeasureT-loop
+μ-loop book mark i₀ i = length mark - i
+
+loop-holds : tie.Need-loop-holds Inv-loop μ-loop
+loop-holds c = search needs
+
+shared-slice-read-if1 : tie.Need-shared-slice-read-if1 Inv-loop μ-loop
+shared-slice-read-if1 c = omega arith
+
+shared-slice-read-if1-2 : tie.Need-shared-slice-read-if1-2 Inv-loop μ-loop
+shared-slice-read-if1-2 c = omega arith
+
+returns : tie.Need-returns Inv-loop μ-loop
+returns c = ap check (sym (prefix-differs (c .before .before .before .before .before .args .book .now) (c .before .before .before .before .before .args .mark .now) (c .before .before .before .before .loop .i) (c .before .before .before .loop-test .taken) (c .if1 .taken)))
+
+add-i : tie.Need-add-i Inv-loop μ-loop
+add-i c = search needs
+
+loop-less : tie.Need-loop-less Inv-loop μ-loop
+loop-less c = search needs
+
+loop-again : tie.Need-loop-again Inv-loop μ-loop
+loop-again c = (omega arith, below-more _ _ (c .before .before .before .before .loop .inv .1) (c .if1 .left))
+
+returns-2 : tie.Need-returns-2 Inv-loop μ-loop
+returns-2 c = ap check (sym (prefix-same (c .before .before .args .book .now) (c .before .before .args .mark .now) (c .before .before .pre) (λ k p. c .before .loop .inv .1 k (omega arith))))
+
+pub begins-with-spec : {M : Type 1} → statement M
+begins-with-spec =
+    tie.close
+    (tie.spec
+    Inv-loop
+    μ-loop
+    loop-holds
+    shared-slice-read-if1
+    shared-slice-read-if1-2
+    returns
+    add-i
+    loop-less
+    loop-again
+    returns-2)

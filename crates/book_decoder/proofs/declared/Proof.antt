@@ -1,0 +1,80 @@
+-- `declared` meets its contract. The invariant: the left roles passed are below twice the names.
+use mathlib.Core.Path.{sym, ap}
+use Prim.Native.Nat.{ℕ, _≤_, _<_, _+_, _*_, _-_}
+use native.Mathlib.Omega.{arith}
+use borrow.Author.Count.{below-more}
+use borrow.Author.Needs.{needs}
+use lib.ListN.{getD}
+use Rattle.book_cursor.specs.Cursor.{entry-rule}
+use Rattle.refusals.specs.Check.{check}
+use Rattle.book_format.specs.DeclaredLaws.{named-right, named-left, named-both}
+use Rattle.book_decoder.proofs.declared.Statement.{statement}
+use Rattle.book_decoder.proofs.declared.Tie as tie
+
+abbrev Inv-loop : tie.InvT-loop
+Inv-loop book names start size right i₀ i = (i ≤ size) × ((k : ℕ) → k < i → getD book (start + k) 0 < 2 * names)
+
+abbrev μ-loop : tie.MeasureT-loop
+μ-loop book names start size right i₀ i = size - i
+
+cast-right : tie.Need-cast-right Inv-loop μ-loop
+cast-right c = omega (arith, c .struct-known .given)
+
+mul-if1 : tie.Need-mul-if1 Inv-loop μ-loop
+mul-if1 c = search needs
+
+returns : tie.Need-returns Inv-loop μ-loop
+unfolding entry-rule
+returns c = ap check (sym (named-right (c .before .before .args .names) (c .before .before .args .rule .right) (c .before .before .args .book .now) (c .before .before .args .rule .start) (c .before .before .args .rule .size) (c .if1 .taken)))
+
+loop-holds : tie.Need-loop-holds Inv-loop μ-loop
+loop-holds c = search needs
+
+mul-if2 : tie.Need-mul-if2 Inv-loop μ-loop
+mul-if2 c = search needs
+
+add-if2 : tie.Need-add-if2 Inv-loop μ-loop
+add-if2 c = search needs
+
+shared-slice-read-if2 : tie.Need-shared-slice-read-if2 Inv-loop μ-loop
+shared-slice-read-if2 c = search needs
+
+cast-if2 : tie.Need-cast-if2 Inv-loop μ-loop
+cast-if2 c = omega (arith, c .shared-slice-known .given (c .before .before .before .before .before .args .rule .start + c .before .before .loop .i))
+
+returns-2 : tie.Need-returns-2 Inv-loop μ-loop
+unfolding entry-rule
+returns-2 c = ap check (sym (named-left _ _ (c .before .before .before .before .before .before .args .book .now) (c .before .before .before .before .before .before .args .rule .start) (c .before .before .before .before .before .before .args .rule .size) (c .before .before .before .before .before .before .pre .1) (c .before .before .before .loop .i) (c .before .before .loop-test .taken) (c .if2 .taken)))
+
+add-i : tie.Need-add-i Inv-loop μ-loop
+add-i c = search needs
+
+loop-less : tie.Need-loop-less Inv-loop μ-loop
+loop-less c = search needs
+
+loop-again : tie.Need-loop-again Inv-loop μ-loop
+loop-again c = (omega arith, below-more _ _ (c .before .before .before .loop .inv .1) (c .if2 .left))
+
+returns-3 : tie.Need-returns-3 Inv-loop μ-loop
+unfolding entry-rule
+returns-3 c = ap check (sym (named-both _ _ (c .before .before .before .before .args .book .now) (c .before .before .before .before .args .rule .start) (c .before .before .before .before .args .rule .size) (c .before .before .before .before .pre .1) (c .before .before .if1 .left) (λ k p. c .before .loop .inv .1 k (omega arith))))
+
+pub declared-spec : {M : Type 1} → statement M
+declared-spec =
+    tie.close
+    (tie.spec
+    Inv-loop
+    μ-loop
+    cast-right
+    mul-if1
+    returns
+    loop-holds
+    mul-if2
+    add-if2
+    shared-slice-read-if2
+    cast-if2
+    returns-2
+    add-i
+    loop-less
+    loop-again
+    returns-3)

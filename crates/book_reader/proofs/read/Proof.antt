@@ -1,0 +1,30 @@
+-- `read` meets its contract: `decode` settles causes 1 to 6 and `distinct` cause 7.
+use mathlib.Core.Path.{sym, ap, _∙_}
+use borrow.Author.Needs.{needs}
+use Rattle.book_decoder.specs.Verdict.{says}
+use Rattle.book_decoder.specs.VerdictLaws.{read-refused}
+use Rattle.book_reader.proofs.read.Statement.{statement}
+use Rattle.book_reader.proofs.read.Tie as tie
+
+decode-requires : tie.Need-decode-requires
+decode-requires c κs = search needs
+
+enum-known-reading : tie.Need-enum-known-reading
+enum-known-reading c = search needs
+
+enum-told : tie.Need-enum-told
+enum-told c = search needs
+
+returns : tie.Need-returns
+returns c = ap says (c .enum-told .given .1) ∙ read-refused _ _ _ (sym (ap says (c .enum-told .given .1)) ∙ c .before .before .decode .ensures)
+
+distinct-requires : tie.Need-distinct-requires
+distinct-requires c κs = sym (sym (ap says (c .before .reading .given .1)) ∙ c .before .before .before .decode .ensures)
+
+returns-2 : tie.Need-returns-2
+returns-2 c = search needs
+
+pub read-spec : {M : Type 1} → statement M
+read-spec =
+    tie.close
+    (tie.spec decode-requires enum-known-reading enum-told returns distinct-requires returns-2)

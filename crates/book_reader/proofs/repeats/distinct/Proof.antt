@@ -1,0 +1,131 @@
+-- `distinct` meets its contract. The invariant: the cursor is at rule `later`, and the search by keys has come to it.
+use mathlib.Core.Path.{_≡_, refl, sym, ap, _∙_}
+use Prim.Native.Nat.{_≤_, _-_}
+use native.Mathlib.Omega.{arith}
+use borrow.Author.Needs.{needs}
+use borrow.Author.Tests.{not-true, not-false}
+use Rattle.book_cursor.specs.CursorLaws.{at-rule, some-rule}
+use Rattle.book_decoder.specs.Verdict.{header-of}
+use Rattle.refusals.specs.Check.{check-passed, check-failed}
+use Rattle.book_decoder.specs.VerdictLaws.{headed}
+use Rattle.book_format.specs.FormatLaws.{length-first-rules}
+use Rattle.book_format.specs.Place.{rule-place}
+use Rattle.book_format.specs.RepeatLaws.{searching-end}
+use Rattle.base.specs.Result.{map-result}
+use Rattle.book_reader.specs.ShortLaws.{bounded}
+use Rattle.book_reader.specs.RepeatSearchLaws.{Searched, searched-start, searched-next, searched-found}
+use Rattle.book_reader.proofs.repeats.distinct.Statement.{statement}
+use Rattle.book_reader.proofs.repeats.distinct.Tie as tie
+
+abbrev Inv-loop : tie.InvT-loop
+Inv-loop book header rules keys₀ index₀ cursor₀ later₀ keys index cursor later = (later ≤ rules) × ((cursor .at ≡ rule-place book later) × Searched book header keys index later)
+
+abbrev μ-loop : tie.MeasureT-loop
+μ-loop book header rules keys₀ index₀ cursor₀ later₀ keys index cursor later = rules - later
+
+first-requires : tie.Need-first-requires Inv-loop μ-loop
+first-requires c κs = search needs
+
+loop-holds : tie.Need-loop-holds Inv-loop μ-loop
+unfolding rule-place
+loop-holds c = (omega arith, (c .first .ensures, searched-start _ _))
+
+step-requires : tie.Need-step-requires Inv-loop μ-loop
+step-requires c κs = search needs
+
+enum-known-entry : tie.Need-enum-known-entry Inv-loop μ-loop
+enum-known-entry c = search needs
+
+enum-told : tie.Need-enum-told Inv-loop μ-loop
+enum-told c = search needs
+
+returns : tie.Need-returns Inv-loop μ-loop
+returns c = absurd (some-rule _ _ _ _ (c .before .before .before .before .loop .inv .1 .0) (headed _ _ (c .before .before .before .before .before .before .before .pre) .whole (c .before .before .before .before .loop .later) (c .before .before .before .loop-test .taken)) (c .before .before .step .ensures) (c .enum-told .given .1))
+
+key-requires : tie.Need-key-requires Inv-loop μ-loop
+key-requires c κs =
+    let a = at-rule _ _ _ _ _ _ (c .before .before .before .before .before .loop .inv .1 .0) (c .before .before .before .step .ensures) (c .before .entry .given .1) in
+    (a .fits, rw (a .rule) (bounded _ _ (c .before .before .before .before .before .before .before .before .pre) .short (c .before .before .before .before .before .loop .later) (c .before .before .before .before .loop-test .taken)))
+
+slice-aggregate-fresh : tie.Need-slice-aggregate-fresh Inv-loop μ-loop
+slice-aggregate-fresh c = search needs
+
+slice-aggregate-fresh-2 : tie.Need-slice-aggregate-fresh-2 Inv-loop μ-loop
+slice-aggregate-fresh-2 c = search needs
+
+fresh-requires : tie.Need-fresh-requires Inv-loop μ-loop
+fresh-requires c κs = c .before .before .before .before .before .before .before .before .loop .inv .1 .1 .entered
+
+enum-told-2 : tie.Need-enum-told-2 Inv-loop μ-loop
+enum-told-2 c = search needs
+
+enum-told-3 : tie.Need-enum-told-3 Inv-loop μ-loop
+enum-told-3 c = search needs
+
+returns-2 : tie.Need-returns-2 Inv-loop μ-loop
+returns-2 c =
+    let a = at-rule _ _ _ _ _ _ (c .before .before .before .before .before .before .before .before .before .before .before .loop .inv .1 .0) (c .before .before .before .before .before .before .before .before .before .step .ensures) (c .before .before .before .before .before .before .before .entry .given .1) in
+    sym
+    (ap (map-result header-of)
+    (headed _ _ (c .before .before .before .before .before .before .before .before .before .before .before .before .before .before .pre) .reads
+    ∙ searched-found _ _ (bounded _ _ (c .before .before .before .before .before .before .before .before .before .before .before .before .before .before .pre)) _ _ _ (c .before .before .before .before .before .before .before .before .before .before .before .loop .inv .1 .1) (c .before .before .before .before .before .before .before .before .before .before .loop-test .taken) _ (a .rule) _ (c .before .before .before .before .before .key .ensures) (not-false _ (check-failed _ _ (c .before .before .fresh .ensures) (c .enum-told3 .given .1)))))
+
+slice-aggregate-enter : tie.Need-slice-aggregate-enter Inv-loop μ-loop
+slice-aggregate-enter c = search needs
+
+slice-aggregate-enter-2 : tie.Need-slice-aggregate-enter-2 Inv-loop μ-loop
+slice-aggregate-enter-2 c = search needs
+
+enter-requires : tie.Need-enter-requires Inv-loop μ-loop
+enter-requires c κs = (c .before .before .before .before .before .before .before .before .before .before .before .before .before .loop .inv .1 .1 .entered, omega (arith, bounded (c .before .before .before .before .before .before .before .before .before .before .before .before .before .before .before .before .args .book .now) (c .before .before .before .before .before .before .before .before .before .before .before .before .before .before .before .before .args .header) (c .before .before .before .before .before .before .before .before .before .before .before .before .before .before .before .before .pre) .few))
+
+add-later : tie.Need-add-later Inv-loop μ-loop
+add-later c = search needs
+
+loop-less : tie.Need-loop-less Inv-loop μ-loop
+loop-less c = search needs
+
+loop-again : tie.Need-loop-again Inv-loop μ-loop
+loop-again c =
+    let a = at-rule _ _ _ _ _ _ (c .before .before .before .before .before .before .before .before .before .before .before .before .before .before .before .before .loop .inv .1 .0) (c .before .before .before .before .before .before .before .before .before .before .before .before .before .before .step .ensures) (c .before .before .before .before .before .before .before .before .before .before .before .before .entry .given .1) in (
+      omega arith,
+      (
+        a .place,
+        searched-next _ _ (bounded _ _ (c .before .before .before .before .before .before .before .before .before .before .before .before .before .before .before .before .before .before .before .pre)) _ _ _ (c .before .before .before .before .before .before .before .before .before .before .before .before .before .before .before .before .loop .inv .1 .1) (c .before .before .before .before .before .before .before .before .before .before .before .before .before .before .before .loop-test .taken) _ (a .rule) _ (c .before .before .before .before .before .before .before .before .before .before .key .ensures) (not-true _ (check-passed _ _ (c .before .before .before .before .before .before .before .fresh .ensures) (c .before .before .before .before .before .enum-told2 .given .1))) _ _ (c .before .before .enter .ensures .0) (c .before .before .enter .ensures .1),
+      ),
+    )
+
+returns-3 : tie.Need-returns-3 Inv-loop μ-loop
+returns-3 c =
+    sym
+    (ap (map-result header-of)
+    (headed _ _ (c .before .before .before .before .pre) .reads
+    ∙ searching-end _ _ _ _ (let e : c .before .loop .later ≡ c .before .before .before .before .args .header .rules = omega arith in e) (c .before .loop .inv .1 .1 .searching))
+    ∙ rw length-first-rules refl)
+
+pub distinct-spec : {M : Type 1} → statement M
+distinct-spec =
+    tie.close
+    (tie.spec
+    Inv-loop
+    μ-loop
+    first-requires
+    loop-holds
+    step-requires
+    enum-known-entry
+    enum-told
+    returns
+    key-requires
+    slice-aggregate-fresh
+    slice-aggregate-fresh-2
+    fresh-requires
+    enum-told-2
+    enum-told-3
+    returns-2
+    slice-aggregate-enter
+    slice-aggregate-enter-2
+    enter-requires
+    add-later
+    loop-less
+    loop-again
+    returns-3)

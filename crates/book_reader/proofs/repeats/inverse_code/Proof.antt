@@ -1,0 +1,67 @@
+-- `inverse_code` meets its contract. The invariant: the code is that of the inverse of the first i roles.
+use mathlib.Core.Path.{_≡_, refl, sym}
+use Prim.Native.Nat.{_≤_, _-_}
+use native.Mathlib.Omega.{arith}
+use borrow.Author.Needs.{needs}
+use lib.ListN.{length, take}
+use lib.Seq.{take-length}
+use Rattle.roles.specs.Role.{inv-chain}
+use Rattle.roles.specs.RoleLaws.{inv-chain-nil}
+use Rattle.rule_keys.specs.Key.{code as code-of}
+use Rattle.rule_keys.specs.CodeLaws.{inverse-front, inverse-next}
+use Rattle.book_reader.proofs.repeats.inverse_code.Statement.{statement}
+use Rattle.book_reader.proofs.repeats.inverse_code.Tie as tie
+
+abbrev Inv-loop : tie.InvT-loop
+Inv-loop chain code₀ i₀ code i = (i ≤ length chain) × (code ≡ code-of (inv-chain (take i chain)))
+
+abbrev μ-loop : tie.MeasureT-loop
+μ-loop chain code₀ i₀ code i = length chain - i
+
+loop-holds : tie.Need-loop-holds Inv-loop μ-loop
+unfolding code-of
+loop-holds c = (omega arith, rw inv-chain-nil refl)
+
+mul-code : tie.Need-mul-code Inv-loop μ-loop
+mul-code c = omega (arith, inverse-front (c .before .before .before .args .chain .now) (c .before .before .before .pre .0) (c .before .before .before .pre .1) (c .before .loop .i) (c .loop-test .taken))
+
+shared-slice-read-inverse : tie.Need-shared-slice-read-inverse Inv-loop μ-loop
+shared-slice-read-inverse c = search needs
+
+inverse-requires : tie.Need-inverse-requires Inv-loop μ-loop
+inverse-requires c κs = search needs
+
+cast-code : tie.Need-cast-code Inv-loop μ-loop
+cast-code c = search needs
+
+add-code : tie.Need-add-code Inv-loop μ-loop
+add-code c = omega (arith, inverse-front (c .before .before .before .before .before .args .chain .now) (c .before .before .before .before .before .pre .0) (c .before .before .before .before .before .pre .1) (c .before .before .before .loop .i) (c .before .before .loop-test .taken), c .inverse .ok)
+
+add-i : tie.Need-add-i Inv-loop μ-loop
+add-i c = search needs
+
+loop-less : tie.Need-loop-less Inv-loop μ-loop
+loop-less c = search needs
+
+loop-again : tie.Need-loop-again Inv-loop μ-loop
+loop-again c = (omega arith, rw (c .before .before .before .loop .inv .1, c .inverse .ensures) (sym (inverse-next _ (c .before .before .before .before .before .pre .0) (c .before .before .before .before .before .pre .1) (c .before .before .before .loop .i) (c .before .before .loop-test .taken))))
+
+returns : tie.Need-returns Inv-loop μ-loop
+returns c = let e : c .before .loop .i ≡ length (c .before .before .before .args .chain .now) = omega arith in rw (e, take-length) at (c .before .loop .inv .1)
+
+pub inverse-code-spec : {M : Type 1} → statement M
+inverse-code-spec =
+    tie.close
+    (tie.spec
+    Inv-loop
+    μ-loop
+    loop-holds
+    mul-code
+    shared-slice-read-inverse
+    inverse-requires
+    cast-code
+    add-code
+    add-i
+    loop-less
+    loop-again
+    returns)

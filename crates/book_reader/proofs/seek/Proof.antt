@@ -1,0 +1,65 @@
+-- `seek` meets its contract. The invariant: the cursor is at rule `passed`.
+use mathlib.Core.Path.{ap, _∙_, _≡_}
+use Prim.Native.Nat.{_≤_, _-_}
+use native.Mathlib.Omega.{arith}
+use borrow.Author.Needs.{needs}
+use Rattle.book_cursor.specs.CursorLaws.{step-rule, some-rule}
+use Rattle.book_format.specs.DecodeLaws.{has-rule-whole}
+use Rattle.book_format.specs.FormatLaws.{place-next}
+use Rattle.book_format.specs.Place.{rule-place}
+use Rattle.book_reader.proofs.seek.Statement.{statement}
+use Rattle.book_reader.proofs.seek.Tie as tie
+
+abbrev Inv-loop : tie.InvT-loop
+Inv-loop book rule cursor₀ passed₀ cursor passed = (passed ≤ rule) × (cursor .at ≡ rule-place book passed)
+
+abbrev μ-loop : tie.MeasureT-loop
+μ-loop book rule cursor₀ passed₀ cursor passed = rule - passed
+
+first-requires : tie.Need-first-requires Inv-loop μ-loop
+first-requires c κs = search needs
+
+loop-holds : tie.Need-loop-holds Inv-loop μ-loop
+unfolding rule-place
+loop-holds c = (omega arith, c .first .ensures)
+
+step-requires : tie.Need-step-requires Inv-loop μ-loop
+step-requires c κs = search needs
+
+enum-known-next : tie.Need-enum-known-next Inv-loop μ-loop
+enum-known-next c = search needs
+
+enum-told : tie.Need-enum-told Inv-loop μ-loop
+enum-told c = search needs
+
+returns : tie.Need-returns Inv-loop μ-loop
+returns c = absurd (some-rule _ _ _ _ (c .before .before .before .before .loop .inv .1) (has-rule-whole _ _ (c .before .before .before .before .before .before .before .pre) (c .before .before .before .before .loop .passed) (c .before .before .before .before .loop .inv .0)) (c .before .before .step .ensures) (c .enum-told .given .1))
+
+add-passed : tie.Need-add-passed Inv-loop μ-loop
+add-passed c = search needs
+
+loop-less : tie.Need-loop-less Inv-loop μ-loop
+loop-less c = search needs
+
+loop-again : tie.Need-loop-again Inv-loop μ-loop
+loop-again c = (omega arith, place-next _ _ _ _ (c .before .before .before .before .before .loop .inv .1) (step-rule _ _ _ _ _ (c .before .before .before .step .ensures) (c .before .next .given .1) .place))
+
+returns-2 : tie.Need-returns-2 Inv-loop μ-loop
+returns-2 c = let e : c .before .loop .passed ≡ c .before .before .before .before .args .rule = omega arith in (c .before .loop .inv .1) ∙ ap (rule-place (c .before .before .before .before .args .book .now)) e
+
+pub seek-spec : {M : Type 1} → statement M
+seek-spec =
+    tie.close
+    (tie.spec
+    Inv-loop
+    μ-loop
+    first-requires
+    loop-holds
+    step-requires
+    enum-known-next
+    enum-told
+    returns
+    add-passed
+    loop-less
+    loop-again
+    returns-2)

@@ -1,0 +1,4 @@
+pub mod Entered
+pub mod EnteredLaws
+pub mod ShortLaws
+pub mod RepeatSearchLaws

@@ -1,0 +1,26 @@
+-- `draw_links` is safe and ends.
+use Prim.Native.Nat.{_-_}
+use borrow.Author.Needs.{needs}
+use Rattle.examples_membership.proofs.sample.draw_links.Statement.{statement}
+use Rattle.examples_membership.proofs.sample.draw_links.Tie as tie
+
+abbrev Inv-loop : tie.InvT-loop
+Inv-loop seed size low roles chain₀ next₀ i₀ chain next i = Unit
+
+abbrev μ-loop : tie.MeasureT-loop
+μ-loop seed size low roles chain₀ next₀ i₀ chain next i = size - i
+
+pub draw-links-spec : {M : Type 1} → statement M
+draw-links-spec =
+    tie.close
+    (tie.spec
+    Inv-loop
+    μ-loop
+    (λ c. search needs)
+    (λ c κs. search needs)
+    (λ c. search needs)
+    (λ c κs. search needs)
+    (λ c. search needs)
+    (λ c. search needs)
+    (λ c. search needs)
+    (λ c. search needs))

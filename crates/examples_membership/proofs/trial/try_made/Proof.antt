@@ -1,0 +1,27 @@
+-- `try_made` is safe and ends.
+use borrow.Author.Needs.{needs}
+use Rattle.examples_membership.proofs.trial.try_made.Statement.{statement}
+use Rattle.examples_membership.proofs.trial.try_made.Tie as tie
+
+abbrev Inv-loop : tie.InvT-loop
+Inv-loop seed₀ counts₀ turns₀ seed counts turns = Unit
+
+abbrev μ-loop : tie.MeasureT-loop
+μ-loop seed₀ counts₀ turns₀ seed counts turns = turns
+
+pub try-made-spec : {M : Type 1} → statement M
+try-made-spec =
+    tie.close
+    (tie.spec
+    Inv-loop
+    μ-loop
+    (λ c. search needs)
+    (λ c. search needs)
+    (λ c κs. search needs)
+    (λ c. search needs)
+    (λ c κs. search needs)
+    (λ c κs. search needs)
+    (λ c. search needs)
+    (λ c. search needs)
+    (λ c κs. search needs)
+    (λ c. search needs))

@@ -1,0 +1,42 @@
+// What the program writes.
+use book_decoder::Verdict;
+
+pub(crate) fn line(text: &[u8]) {
+    io::write_all(1, text);
+    io::write_all(1, b"\n");
+}
+
+pub(crate) fn label(text: &[u8], n: usize) {
+    io::write_all(1, text);
+    io::print_decimal(1, n as u64);
+}
+
+// What the reader answers for the book, in document 01's numbers.
+pub(crate) fn verdict(text: &[u8], bytes: &[u8]) {
+    io::write_all(1, text);
+    match book_reader::read(bytes) {
+        Verdict::WellFormed(header) => {
+            label(b": well-formed, names ", header.names);
+            label(b", rules ", header.rules);
+        }
+        Verdict::Refused(refusal) => {
+            label(b": refused ", refusals::cause(refusal));
+            label(b" ", refusals::value(refusal));
+        }
+    }
+    io::write_all(1, b"\n");
+}
+
+// The left side of a rule, as the reader hands it out.
+pub(crate) fn left(text: &[u8], rule: usize, bytes: &[u8]) {
+    io::write_all(1, text);
+    label(b" ", rule);
+    io::write_all(1, b":");
+    let part = book_reader::left_side(bytes, rule);
+    let mut i = 0;
+    while i < part.len() {
+        label(b" ", part[i] as usize);
+        i += 1;
+    }
+    io::write_all(1, b"\n");
+}

@@ -1,7 +1,0 @@
-pub mod Replacing
-pub mod Shapes
-pub mod RoleShapes
-pub mod Runs
-pub mod Sound
-pub mod Complete
-pub mod Derived

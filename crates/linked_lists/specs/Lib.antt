@@ -1,0 +1,2 @@
+pub mod LinkedLists
+pub mod LinkedListsLaws

@@ -1,0 +1,66 @@
+-- `counted` meets its contract. The invariant: the levels passed count the names of their masks, and those left are 0.
+use mathlib.Core.Logic.{⊎-elim}
+use Prim.Native.Nat.{_≤_, _-_}
+use native.Mathlib.Omega.{arith}
+use borrow.Author.Needs.{needs}
+use lib.ListN.{length}
+use lib.Count.{ones-le}
+use Rattle.order_masks.specs.CountLaws.{Counting, counting-start, counting-empty, counting-next}
+use Rattle.order_checker.specs.FrontLaws.{counting-past}
+use Rattle.order_checker.proofs.counted.Statement.{statement}
+use Rattle.order_checker.proofs.counted.Tie as tie
+
+abbrev Inv-loop : tie.InvT-loop
+Inv-loop masks levels₀ x₀ levels x = (x ≤ length masks) × Counting masks levels x
+
+abbrev μ-loop : tie.MeasureT-loop
+μ-loop masks levels₀ x₀ levels x = length masks - x
+
+loop-holds : tie.Need-loop-holds Inv-loop μ-loop
+loop-holds c = (omega arith, counting-start _)
+
+mul-mask : tie.Need-mul-mask Inv-loop μ-loop
+mul-mask c = search needs
+
+shared-slice-read-mask : tie.Need-shared-slice-read-mask Inv-loop μ-loop
+shared-slice-read-mask c = search needs
+
+cast-levels : tie.Need-cast-levels Inv-loop μ-loop
+cast-levels c = omega (arith, ones-le 64 _ (c .before .shared-slice-known .given (c .before .before .before .loop .x) .fits))
+
+array-write-levels : tie.Need-array-write-levels Inv-loop μ-loop
+array-write-levels c = search needs
+
+add-x : tie.Need-add-x Inv-loop μ-loop
+add-x c = search needs
+
+loop-less : tie.Need-loop-less Inv-loop μ-loop
+loop-less c = search needs
+
+loop-again : tie.Need-loop-again Inv-loop μ-loop
+loop-again c = (
+  omega (arith, c .before .before .loop-test .taken),
+  ⊎-elim
+      (λ w. rw (w .1) (counting-next _ _ _ (omega (arith, c .before .before .loop-test .taken)) (c .before .shared-slice-known .given (c .before .before .before .loop .x) .fits) (c .before .before .before .loop .inv .1)))
+      (λ w. rw (w .1) (counting-empty _ _ _ (omega (arith, c .before .before .loop-test .taken)) (w .0 .left) (c .before .before .before .loop .inv .1)))
+      (c .if1 .came),
+)
+
+returns : tie.Need-returns Inv-loop μ-loop
+returns c = (c .before .loop .inv .1 .size, counting-past _ _ _ (c .loop-test .left) (c .before .loop .inv .1))
+
+pub counted-spec : {M : Type 1} → statement M
+counted-spec =
+    tie.close
+    (tie.spec
+    Inv-loop
+    μ-loop
+    loop-holds
+    mul-mask
+    shared-slice-read-mask
+    cast-levels
+    array-write-levels
+    add-x
+    loop-less
+    loop-again
+    returns)

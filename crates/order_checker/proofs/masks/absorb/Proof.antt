@@ -1,0 +1,85 @@
+-- `absorb` meets its contract. The invariant: the masks passed have absorbed the set, the others are as they were.
+use mathlib.Core.Logic.{⊎-elim}
+use mathlib.Core.Path.{sym, _∙_}
+use Prim.Native.Nat.{_≤_, _<_, _-_}
+use native.Mathlib.Omega.{arith}
+use borrow.Author.Needs.{needs}
+use lib.ListN.{length}
+use Rattle.order_masks.specs.AbsorbLaws.{above-own, above-has, above-none, Absorbing, absorbing-start, absorbing-grown, absorbing-kept, absorbing-end}
+use Rattle.order_checker.specs.FrontLaws.{absorbing-past}
+use Rattle.order_checker.proofs.masks.absorb.Statement.{statement}
+use Rattle.order_checker.proofs.masks.absorb.Tie as tie
+
+abbrev Inv-loop : tie.InvT-loop
+Inv-loop masks₀ right lower x₀ masks x = (x ≤ length masks₀) × Absorbing masks₀ right lower masks x
+
+abbrev μ-loop : tie.MeasureT-loop
+μ-loop masks₀ right lower x₀ masks x = length masks₀ - x
+
+loop-holds : tie.Need-loop-holds Inv-loop μ-loop
+loop-holds c = (omega arith, absorbing-start _ _ _)
+
+mul-mask : tie.Need-mul-mask Inv-loop μ-loop
+mul-mask c = search needs
+
+slice-read-mask : tie.Need-slice-read-mask Inv-loop μ-loop
+slice-read-mask c = search needs
+
+mul-masks : tie.Need-mul-masks Inv-loop μ-loop
+mul-masks c = search needs
+
+slice-write-masks : tie.Need-slice-write-masks Inv-loop μ-loop
+slice-write-masks c = search needs
+
+has-requires : tie.Need-has-requires Inv-loop μ-loop
+has-requires c κs = search needs
+
+mul-masks-2 : tie.Need-mul-masks-2 Inv-loop μ-loop
+mul-masks-2 c = search needs
+
+slice-write-masks-2 : tie.Need-slice-write-masks-2 Inv-loop μ-loop
+slice-write-masks-2 c = search needs
+
+add-x : tie.Need-add-x Inv-loop μ-loop
+add-x c = search needs
+
+loop-less : tie.Need-loop-less Inv-loop μ-loop
+loop-less c = search needs
+
+loop-again : tie.Need-loop-again Inv-loop μ-loop
+loop-again c =
+    let fits : c .before .before .before .loop .x < length (c .before .before .before .before .before .args .masks .now) = omega (arith, (c .before .before .before .before .before .pre .1)) in (
+      omega arith,
+      ⊎-elim
+          (λ w. rw (w .1) (absorbing-grown _ _ _ _ _ fits (c .before .before .before .loop .inv .1) (above-own _ _ _ (w .0 .taken))))
+          (⊎-elim
+          (λ w. rw (w .3) (absorbing-grown _ _ _ _ _ fits (c .before .before .before .loop .inv .1) (above-has _ _ _ (sym (w .1 .ensures) ∙ w .2 .taken))))
+          (λ w. rw (w .3) (absorbing-kept _ _ _ _ _ fits (c .before .before .before .loop .inv .1) (above-none _ _ _ (w .0 .left) (sym (w .1 .ensures) ∙ w .2 .left)))))
+          (c .if1 .came),
+    )
+
+same-length : tie.Need-same-length Inv-loop μ-loop
+same-length c = search needs
+
+returns : tie.Need-returns Inv-loop μ-loop
+returns c = absorbing-end _ _ _ _ _ (omega arith) (omega arith) (absorbing-past _ _ _ _ _ (omega (arith, c .before .loop .inv .1 .size)) (omega arith) (c .before .before .before .pre .0) (c .before .loop .inv .1))
+
+pub absorb-spec : {M : Type 1} → statement M
+absorb-spec =
+    tie.close
+    (tie.spec
+    Inv-loop
+    μ-loop
+    loop-holds
+    mul-mask
+    slice-read-mask
+    mul-masks
+    slice-write-masks
+    has-requires
+    mul-masks-2
+    slice-write-masks-2
+    add-x
+    loop-less
+    loop-again
+    same-length
+    returns)

@@ -1,0 +1,74 @@
+-- `reached` meets its contract. The invariant: what the roles reach is in the mask, or is what the roles left reach.
+use Prim.Native.Nat.{_≤_, _<_, _-_}
+use native.Mathlib.Omega.{arith}
+use borrow.Author.Needs.{needs}
+use lib.ListN.{length}
+use Rattle.order_masks.specs.ReachLaws.{Reaching, reaching-start, reaching-next, reaching-end}
+use Rattle.roles.specs.Role.{name}
+use Rattle.order_checker.proofs.masks.reached.Statement.{statement}
+use Rattle.order_checker.proofs.masks.reached.Tie as tie
+
+abbrev Inv-loop : tie.InvT-loop
+Inv-loop roles masks lower₀ i₀ lower i = (i ≤ length roles) × Reaching masks roles lower i
+
+abbrev μ-loop : tie.MeasureT-loop
+μ-loop roles masks lower₀ i₀ lower i = length roles - i
+
+loop-holds : tie.Need-loop-holds Inv-loop μ-loop
+loop-holds c = (omega arith, reaching-start _ _)
+
+shared-slice-read-name : tie.Need-shared-slice-read-name Inv-loop μ-loop
+shared-slice-read-name c = search needs
+
+name-requires : tie.Need-name-requires Inv-loop μ-loop
+name-requires c κs = search needs
+
+-- the name of the role read has a mask
+name-masked : (c : tie.After-name Inv-loop μ-loop) → c .name .result < length (c .before .before .before .before .before .before .args .masks .now)
+unfolding name
+name-masked c = omega (arith, c .name .ensures, c .before .before .before .before .before .before .pre .0 (c .before .before .before .loop .i) (c .before .before .loop-test .taken))
+
+name-small : (c : tie.After-name Inv-loop μ-loop) → c .name .result < 64
+name-small c = omega (arith, name-masked c, c .before .before .before .before .before .before .pre .1)
+
+cast-inner : tie.Need-cast-inner Inv-loop μ-loop
+cast-inner c = omega (arith, name-small c)
+
+single-requires : tie.Need-single-requires Inv-loop μ-loop
+single-requires c κs = name-small c
+
+mul-lower : tie.Need-mul-lower Inv-loop μ-loop
+mul-lower c = omega (arith, name-small (c .before))
+
+shared-slice-read-lower : tie.Need-shared-slice-read-lower Inv-loop μ-loop
+shared-slice-read-lower c = name-masked (c .before .before)
+
+add-i : tie.Need-add-i Inv-loop μ-loop
+add-i c = search needs
+
+loop-less : tie.Need-loop-less Inv-loop μ-loop
+loop-less c = search needs
+
+loop-again : tie.Need-loop-again Inv-loop μ-loop
+loop-again c = (omega arith, reaching-next _ _ _ _ _ _ (c .before .before .before .before .loop-test .taken) (c .before .before .name .ensures) (name-small (c .before .before)) (c .before .single .ensures) (c .before .before .before .before .before .loop .inv .1))
+
+returns : tie.Need-returns Inv-loop μ-loop
+returns c = reaching-end _ _ _ _ (c .loop-test .left) (c .before .loop .inv .1)
+
+pub reached-spec : {M : Type 1} → statement M
+reached-spec =
+    tie.close
+    (tie.spec
+    Inv-loop
+    μ-loop
+    loop-holds
+    shared-slice-read-name
+    name-requires
+    cast-inner
+    single-requires
+    mul-lower
+    shared-slice-read-lower
+    add-i
+    loop-less
+    loop-again
+    returns)

@@ -1,0 +1,91 @@
+-- `order` meets its contract: `read` settles causes 1 to 7, `gather` cause 8, and the counted masks are levels.
+use mathlib.Core.Path.{_≡_, sym, ap, _∙_}
+use Prim.Native.Nat.{ℕ, _≤_}
+use borrow.Author.Needs.{needs}
+use lib.ListN.{length, take, replicate}
+use lib.Seq.{length-take-le, take-at, length-front}
+use Rattle.book_causes.specs.OrderedRun.{ordered-refused}
+use Rattle.book_format.specs.Format.{read}
+use Rattle.base.specs.Result.{map-result}
+use Rattle.base.specs.Result.Result.{ok}
+use Rattle.order_masks.specs.AbsorbLaws.{holds-none}
+use Rattle.order_checker.specs.FrontLaws.{holds-front}
+use Rattle.order_checker.specs.GatherLaws.{few-names}
+use Rattle.order_checker.specs.OrderLaws.{order-refused, order-passed}
+use Rattle.book_decoder.specs.Verdict.{header-of, says}
+use Rattle.order_checker.proofs.order.Statement.{statement}
+use Rattle.order_checker.proofs.order.Tie as tie
+
+read-requires : tie.Need-read-requires
+read-requires c κs = search needs
+
+enum-known-verdict : tie.Need-enum-known-verdict
+enum-known-verdict c = search needs
+
+enum-told : tie.Need-enum-told
+enum-told c = search needs
+
+returns : tie.Need-returns
+returns c =
+    let r = ap says (c .enum-told .given .1) in
+    order-refused _ _ (r ∙ sym (ap (map-result header-of) (ordered-refused header-of _ _ _ (sym r ∙ c .before .before .read .ensures)))) _ _ r
+
+-- the header is that of a book that `read` accepts, and has at most 64 names
+ok-header : (c : tie.After-known-told) → map-result header-of (read (c .before .before .before .before .before .args .book .now)) ≡ ok (c .before .verdict .given .0 .0)
+ok-header c = sym (sym (ap says (c .before .verdict .given .1)) ∙ c .before .before .before .read .ensures)
+
+few : (c : tie.After-known-told) → c .before .verdict .given .0 .0 .names ≤ 64
+few c = few-names _ _ (ok-header c)
+
+-- there is a mask for each name
+as-many : (c : tie.After-known-told) → length {A = ℕ} (take (c .before .verdict .given .0 .0 .names) (replicate 64 0)) ≡ c .before .verdict .given .0 .0 .names
+as-many c = length-take-le _ (replicate 64 0) (few c)
+
+array-borrow-prefix-masks : tie.Need-array-borrow-prefix-masks
+array-borrow-prefix-masks c = few c
+
+slice-aggregate-gather : tie.Need-slice-aggregate-gather
+slice-aggregate-gather c = sym (as-many (c .before))
+
+gather-requires : tie.Need-gather-requires
+gather-requires c κs = (ok-header (c .before), (as-many (c .before), holds-front (c .before .before .verdict .given .0 .0 .names) (replicate 64 0) holds-none))
+
+enum-told-2 : tie.Need-enum-told-2
+enum-told-2 c = search needs
+
+enum-told-3 : tie.Need-enum-told-3
+enum-told-3 c = search needs
+
+returns-2 : tie.Need-returns-2
+returns-2 c = order-refused _ _ (c .before .before .before .gather .ensures .0) _ _ (ap says (c .enum-told3 .given .1))
+
+array-share-prefix-masks : tie.Need-array-share-prefix-masks
+array-share-prefix-masks c = rw (length-front {A = ℕ} (replicate 64 0) _ _ (c .before .before .before .gather .kept .1 .1 .0)) (few (c .before .before .before .before .before))
+
+slice-aggregate-counted : tie.Need-slice-aggregate-counted
+slice-aggregate-counted c = sym (length-take-le _ _ (array-share-prefix-masks (c .before)))
+
+counted-requires : tie.Need-counted-requires
+counted-requires c κs = rw (length-take-le _ _ (array-share-prefix-masks (c .before))) (few (c .before .before .before .before .before .before))
+
+returns-3 : tie.Need-returns-3
+returns-3 c = order-passed _ _ (c .before .before .before .before .before .gather .ensures .0) _ (ap says (c .before .before .enum-told2 .given .1)) _ _ (c .before .before .before .before .before .gather .ensures .1) (c .counted .ensures .0) (rw (take-at _ _ _ (c .before .before .before .before .before .gather .kept .1 .1 .0 ∙ as-many (c .before .before .before .before .before .before .before))) at (c .counted .ensures .1))
+
+pub order-spec : {M : Type 1} → statement M
+order-spec =
+    tie.close
+    (tie.spec
+    read-requires
+    enum-known-verdict
+    enum-told
+    returns
+    array-borrow-prefix-masks
+    slice-aggregate-gather
+    gather-requires
+    enum-told-2
+    enum-told-3
+    returns-2
+    array-share-prefix-masks
+    slice-aggregate-counted
+    counted-requires
+    returns-3)

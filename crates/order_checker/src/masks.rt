@@ -1,0 +1,64 @@
+// Sets of names as bit masks of 64 bits.
+ghost use mathlib.Core.Bool.{Bool};
+ghost use mathlib.Core.Path.{_≡_};
+ghost use Prim.Native.Nat.{ℕ, _*_, _^_, _<_, _≤_};
+ghost use lib.ListN.{length, getD};
+ghost use Rattle.roles.specs.Role.{Chain};
+ghost use Rattle.order.specs.Closure.{reaches, with-inner};
+ghost use Rattle.name_sets.specs.Mask.{Holds};
+ghost use Rattle.name_sets.specs.Mask.{has as has-of};
+use role_bytes::name;
+
+// Whether name y is in the set.
+pub(crate) fn has(mask: u64, y: usize) -> bool
+    requires { ⌜ y < 64 ⌝ }
+    ensures { λ r. ⌜ r ≡ has-of mask y ⌝ }
+{
+    (mask >> y) & 1 == 1
+}
+
+// The set of name x alone.
+fn single(x: usize) -> u64
+    requires { ⌜ x < 64 ⌝ }
+    ensures { λ r. ⌜ r ≡ 2 ^ x ⌝ }
+{
+    1 << x
+}
+
+// The names of some roles, and all names lower than these.
+pub(crate) fn reached(roles: &[u8], masks: &[u64]) -> u64
+    requires { ⌜ ((k : ℕ) → k < length (now roles) → getD (now roles) k 0 < 2 * length (now masks)) ⌝ }
+    requires { ⌜ length (now masks) ≤ 64 ⌝ }
+    ensures { λ r. ⌜ ((lower : ℕ → ℕ → Bool) → Holds (now (masks .entry)) lower → (y : ℕ) → y < 64
+        → has-of r y ≡ reaches lower (now (roles .entry)) y) ⌝ }
+{
+    let mut lower = 0;
+    let mut i = 0;
+    while i < roles.len() {
+        let inner = name(roles[i]) as usize;
+        lower = lower | single(inner) | masks[inner];
+        i += 1;
+    }
+    lower
+}
+
+// Puts a set of names below a name and below all names above it.
+pub(crate) fn absorb(masks: &mut [u64], right: usize, lower: u64)
+    requires { ⌜ right < length (now masks) ⌝ }
+    requires { ⌜ length (now masks) ≤ 64 ⌝ }
+    ensures { λ _. ⌜ ((order : ℕ → ℕ → Bool) (inner : Chain) → Holds (now (masks .entry)) order
+        → ((y : ℕ) → y < 64 → has-of lower y ≡ reaches order inner y) → Holds (now (masks .exit)) (with-inner order right inner)) ⌝ }
+{
+    let mut x = 0;
+    while x < masks.len() {
+        let mask = masks[x];
+        if x == right {
+            masks[x] = mask | lower;
+        } else {
+            if has(mask, right) {
+                masks[x] = mask | lower;
+            }
+        }
+        x += 1;
+    }
+}

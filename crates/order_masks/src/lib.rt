@@ -1,0 +1,1 @@
+// Laws alone, in specs/: the order in masks. No code runs here.

@@ -1,0 +1,126 @@
+-- `spread` meets its contract. The invariant: of the list for the state and the label, the transitions from the entry on are done.
+use mathlib.Core.Logic.{⊎-elim}
+use mathlib.Core.Path.{_≡_}
+use Prim.Native.Nat.{_+_, _*_, _-_}
+use native.Mathlib.Omega.{arith}
+use borrow.Author.Needs.{needs}
+use Rattle.query_simulation.specs.TransitionIndex.{Walked}
+use Rattle.query_simulation.specs.TransitionIndexLaws.{walked-start, walked-same, walked-other, next-less}
+use Rattle.query_answerer.proofs.reading.spread.Statement.{statement}
+use Rattle.query_answerer.proofs.reading.spread.Tie as tie
+
+abbrev Inv-loop : tie.InvT-loop
+Inv-loop moves index room from label states₀ stamp count all₀ at₀ states all at = Walked room stamp moves from label at states₀ count states all
+
+abbrev μ-loop : tie.MeasureT-loop
+μ-loop moves index room from label states₀ stamp count all₀ at₀ states all at = at
+
+slot-requires : tie.Need-slot-requires Inv-loop μ-loop
+slot-requires c κs = search needs
+
+mul-at : tie.Need-mul-at Inv-loop μ-loop
+mul-at c = omega (arith, c .slot .ensures .1, c .before .before .before .before .pre .0 .few)
+
+shared-slice-read-at : tie.Need-shared-slice-read-at Inv-loop μ-loop
+shared-slice-read-at c = omega (arith, c .before .slot .ensures .1, c .before .before .before .before .before .pre .0 .space)
+
+cast-at : tie.Need-cast-at Inv-loop μ-loop
+cast-at c = omega (arith, (c .shared-slice-known3 .given) (c .before .slot .result))
+
+loop-holds : tie.Need-loop-holds Inv-loop μ-loop
+loop-holds c = rw (c .before .slot .ensures .0) (walked-start _ _ _ _ (c .before .before .before .before .before .pre .0) _ _ _ _ (c .before .before .before .before .before .pre .1 .0) (c .before .before .before .before .before .pre .1 .1))
+
+sub-k : tie.Need-sub-k Inv-loop μ-loop
+sub-k c = search needs
+
+mul-if1 : tie.Need-mul-if1 Inv-loop μ-loop
+mul-if1 c = search needs
+
+add-if1 : tie.Need-add-if1 Inv-loop μ-loop
+add-if1 c = search needs
+
+mul-if1-2 : tie.Need-mul-if1-2 Inv-loop μ-loop
+mul-if1-2 c = search needs
+
+shared-slice-read-if1 : tie.Need-shared-slice-read-if1 Inv-loop μ-loop
+shared-slice-read-if1 c = search needs
+
+mul-put : tie.Need-mul-put Inv-loop μ-loop
+mul-put c = search needs
+
+add-put : tie.Need-add-put Inv-loop μ-loop
+add-put c = search needs
+
+mul-put-2 : tie.Need-mul-put-2 Inv-loop μ-loop
+mul-put-2 c = search needs
+
+shared-slice-read-put : tie.Need-shared-slice-read-put Inv-loop μ-loop
+shared-slice-read-put c = search needs
+
+cast-put : tie.Need-cast-put Inv-loop μ-loop
+cast-put c = omega (arith, (c .shared-slice-known5 .given) (3 * (c .before .before .before .before .before .loop .at - 1) + 2))
+
+put-requires : tie.Need-put-requires Inv-loop μ-loop
+put-requires c κs = (c .before .before .before .before .before .before .before .before .before .before .before .pre .0 .few, (c .before .before .before .before .before .loop .inv .spread .added .good, c .before .before .before .before .before .before .before .before .before .before .before .pre .0 .fit .to-fits (c .before .before .before .before .before .loop .at - 1) (omega (arith, c .before .before .before .before .before .loop .inv .low, c .before .before .before .before .loop-test .taken))))
+
+mul-at-2 : tie.Need-mul-at-2 Inv-loop μ-loop
+mul-at-2 c = search needs
+
+add-at : tie.Need-add-at Inv-loop μ-loop
+add-at c = search needs
+
+mul-at-3 : tie.Need-mul-at-3 Inv-loop μ-loop
+mul-at-3 c = search needs
+
+shared-slice-read-at-2 : tie.Need-shared-slice-read-at-2 Inv-loop μ-loop
+shared-slice-read-at-2 c = search needs
+
+cast-at-2 : tie.Need-cast-at-2 Inv-loop μ-loop
+cast-at-2 c = omega (arith, (c .shared-slice-known6 .given) (2 * c .before .before .before .before .before .before .before .before .before .before .args .room + (c .before .before .before .before .loop .at - 1)))
+
+loop-less : tie.Need-loop-less Inv-loop μ-loop
+loop-less c = next-less _ _ _ _ (c .before .before .before .before .before .before .before .before .before .before .pre .0) _ _ _ _ _ _ _ (c .before .before .before .before .loop .inv) (c .before .before .before .loop-test .taken)
+
+loop-again : tie.Need-loop-again Inv-loop μ-loop
+loop-again c = ⊎-elim
+    (λ w. rw (w .6, w .7) (walked-same _ _ _ _ (c .before .before .before .before .before .before .before .before .before .before .pre .0) _ _ _ _ _ _ _ (c .before .before .before .before .loop .inv) (c .before .before .before .loop-test .taken) (w .0 .taken) _ _ (w .3 .ensures)))
+    (λ w. rw (w .1, w .2) (walked-other _ _ _ _ (c .before .before .before .before .before .before .before .before .before .before .pre .0) _ _ _ _ _ _ _ (c .before .before .before .before .loop .inv) (c .before .before .before .loop-test .taken) (w .0 .left)))
+    (c .before .if1 .came)
+
+same-length : tie.Need-same-length Inv-loop μ-loop
+same-length c = search needs
+
+returns : tie.Need-returns Inv-loop μ-loop
+returns c = let e : c .before .loop .at ≡ 0 = omega (arith, c .loop-test .left) in rw e at (c .before .loop .inv .spread)
+
+pub spread-spec : {M : Type 1} → statement M
+spread-spec =
+    tie.close
+    (tie.spec
+    Inv-loop
+    μ-loop
+    slot-requires
+    mul-at
+    shared-slice-read-at
+    cast-at
+    loop-holds
+    sub-k
+    mul-if1
+    add-if1
+    mul-if1-2
+    shared-slice-read-if1
+    mul-put
+    add-put
+    mul-put-2
+    shared-slice-read-put
+    cast-put
+    put-requires
+    mul-at-2
+    add-at
+    mul-at-3
+    shared-slice-read-at-2
+    cast-at-2
+    loop-less
+    loop-again
+    same-length
+    returns)

@@ -1,0 +1,133 @@
+-- How answering one question after another gives what a batch promises.
+use mathlib.Core.List.{List, [], _∷_, append-assoc, append-nil}
+use mathlib.Core.Logic.{_⊎_, inl, inr}
+use mathlib.Core.Path.{_≡_, refl, sym, ap, ap₂, _∙_}
+use Prim.Native.Nat.{ℕ, zero, suc, _+_, _-_, _<_, _≤_}
+use native.Mathlib.Nat.{zero-add}
+use native.Mathlib.Omega.{arith}
+use lib.ListN.{length, getD, set, take, drop, length-set, length-drop}
+use lib.Seq.{getD-drop, drop-drop, take-suc-set, drop-set-lt}
+use Rattle.words.specs.Word.{word}
+use Rattle.words.specs.WordLaws.{word-drop}
+use Rattle.base.specs.Result.Result.{refused}
+use Rattle.query_causes.specs.Query.{query, Answered}
+use Rattle.query_causes.specs.Query.Answered.{refuses}
+use Rattle.query_causes.specs.Input.{links-of, Broken}
+use Rattle.query_checker.specs.Question.{cause-of}
+use Rattle.query_checker.specs.declared.refusal.QueryRefusal.{QueryRefusal}
+use Rattle.query_checker.specs.declared.refusal.QueryRefusal.the-variants.{Tables, Chain, Role}
+use Rattle.query_answerer.specs.Batch.{told, Batched, Batches, Going, Sized}
+use Rattle.query_answerer.specs.Batch.Batched.{none, more}
+
+-- what each test of the search for a whole question settles
+module _ (q : List ℕ) (at : ℕ) (h : at ≤ length q) where
+  left : length (drop at q) ≡ length q - at
+  left = length-drop at q
+
+  same-links : word q (at + 1) ≡ links-of (drop at q)
+  same-links = sym (word-drop at q 1)
+
+  pub sized-short : length q - at < 3 → Sized (drop at q) 0
+  sized-short l =
+      let short : length (drop at q) < 3 = omega (arith, left, l) in
+      record { some = λ z. absurd (z refl); none = λ e. omega arith }
+
+  pub sized-part : 3 ≤ length q - at → length q - at - 3 < word q (at + 1) → Sized (drop at q) 0
+  sized-part m l = record { some = λ z. absurd (z refl); none = λ e. omega (arith, left, m, l, same-links) }
+
+  pub sized-whole : 3 ≤ length q - at → word q (at + 1) ≤ length q - at - 3 → Sized (drop at q) (3 + word q (at + 1))
+  sized-whole m l =
+      record {
+        some = λ z. (ap (λ (n : ℕ). 3 + n) same-links, omega (arith, left, m, l, same-links));
+        none = λ e. absurd (let f : ⊥ = omega (arith, e) in f);
+      }
+
+-- a whole question at a place ends within the input
+module _ (q : List ℕ) (read size : ℕ) (h : read ≤ length q) (found : Sized (drop read q) size) (some : size ≡ 0 → ⊥) where
+  pub whole-fits : (3 ≤ size) × (read + size ≤ length q)
+  whole-fits =
+      let f = found .some some in
+      let e : size ≡ 3 + links-of (drop read q) = f .0 in
+      let w : 3 + links-of (drop read q) ≤ length (drop read q) = f .1 in
+      (omega arith, omega (arith, length-drop read q))
+
+  module _ (heads moves : List ℕ) where
+    -- its role and its chain stand in their places
+    whole-answered : (byte : ℕ) → Answered heads moves (getD q read 0) (take (read + size - (read + 3)) (drop (read + 3) q)) (told byte)
+        → Answered heads moves (getD (drop read q) 0 0) (take (links-of (drop read q)) (drop 3 (drop read q))) (told byte)
+    whole-answered byte t =
+        let e : size ≡ 3 + links-of (drop read q) = found .some some .0 in
+        let links : links-of (drop read q) ≡ read + size - (read + 3) = omega arith in
+        let none : read + 0 ≡ read = omega arith in
+        let role : getD (drop read q) 0 0 ≡ getD q read 0 = getD-drop read q 0 0 ∙ ap (λ (i : ℕ). getD q i 0) none in
+        let chain : take (links-of (drop read q)) (drop 3 (drop read q)) ≡ take (read + size - (read + 3)) (drop (read + 3) q) =
+        ap₂ (λ (n : ℕ) (s : List ℕ). take n s) links (drop-drop 3 read q) in
+        rw (role, chain) t
+
+    pub going-next : (answers answers′ : List ℕ) (answered byte : ℕ) → Going heads moves q answers read answered answers′ → answered < length answers′
+        → Answered heads moves (getD q read 0) (take (read + size - (read + 3)) (drop (read + 3) q)) (told byte)
+        → Going heads moves q answers (read + size) (answered + 1) (set answers′ answered byte)
+    going-next answers answers′ answered byte g l t =
+        record {
+          within = whole-fits .1;
+          fits = omega (arith, g .same, l);
+          same = length-set answers′ answered byte ∙ g .same;
+          completes = λ n bytes b.
+              let e : size ≡ 3 + links-of (drop read q) = found .some some .0 in
+              let one : answered + 1 ≡ suc answered = omega arith in
+              let sum : read + size + n ≡ read + (3 + links-of (drop read q) + n) = omega arith in
+              let rest : Batched heads moves (drop (3 + links-of (drop read q)) (drop read q)) n bytes =
+              rw (drop-drop (3 + links-of (drop read q)) read q, ← e) b in
+              let joined = g .completes (3 + links-of (drop read q) + n) (byte ∷ bytes)
+              (more (drop read q) byte n bytes (found .some some .1) (whole-answered byte t) rest) in
+              rw (one, take-suc-set answers′ answered byte l, append-assoc (take answered answers′) (byte ∷ []) bytes, sum) joined;
+          kept =
+              let one : answered + 1 ≡ suc answered = omega arith in
+              rw one
+              (drop-set-lt (suc answered) answers′ answered byte (omega arith)
+              ∙ sym (drop-drop 1 answered answers′ ∙ ap (λ (k : ℕ). drop k answers′) one)
+              ∙ ap (drop 1) (g .kept)
+              ∙ drop-drop 1 answered answers
+              ∙ ap (λ (k : ℕ). drop k answers) one);
+        }
+
+module _ (heads moves q answers : List ℕ) where
+  -- nothing is answered yet
+  pub going-none : Going heads moves q answers 0 0 answers
+  going-none = record { within = omega arith; fits = omega arith; same = refl; completes = λ n bytes b. rw (zero-add n) b; kept = refl }
+
+  -- why no more is answered
+  module _ (read answered : ℕ) (answers′ : List ℕ) (g : Going heads moves q answers read answered answers′) where
+    going-ends : (answered ≡ length answers) ⊎ Broken (drop read q) → Batches heads moves q answers answers′ (record { answered = answered; read = read })
+    going-ends stopped =
+        let none-left : read + 0 ≡ read = omega arith in
+        record {
+          fits = g .fits;
+          same = g .same;
+          written = rw (none-left, append-nil (take answered answers′)) at (g .completes 0 [] (none (drop read q)));
+          kept = g .kept;
+          stopped = stopped;
+        }
+
+    pub going-full : length answers′ ≤ answered → Batches heads moves q answers answers′ (record { answered = answered; read = read })
+    going-full l = going-ends (inl (omega (arith, g .same, g .fits, l)))
+
+    pub going-broken : (size : ℕ) → Sized (drop read q) size → size ≡ 0 → Batches heads moves q answers answers′ (record { answered = answered; read = read })
+    going-broken size found e = going-ends (inr (found .none e))
+
+-- a refusal is told by the number of its cause
+pub small-cause : (x : QueryRefusal) → cause-of x ≤ 14
+small-cause Tables = omega arith
+small-cause Chain = omega arith
+small-cause Role = omega arith
+
+pub refused-told : (heads moves : List ℕ) (r : ℕ) (w : List ℕ) (x : QueryRefusal) → query heads moves r w ≡ refused (cause-of x) 0 → (b : ℕ) → b ≡ cause-of x
+    → Answered heads moves r w (told b)
+refused-told heads moves r w Tables e b d = rw d (refuses 12 0 e)
+refused-told heads moves r w Chain e b d = rw d (refuses 13 0 e)
+refused-told heads moves r w Role e b d = rw d (refuses 14 0 e)
+
+pub few-taken : (n : ℕ) (s : List ℕ) → length (take n s) ≤ n
+few-taken zero s = omega arith
+few-taken (suc n) [] = omega arith
+few-taken (suc n) (x ∷ s) = omega (arith, few-taken n s)

@@ -1,0 +1,95 @@
+-- From what a build promises, what the tables answer and what a refused question leaves to demand 3.
+use mathlib.Core.List.{List}
+use mathlib.Core.Path.{_≡_, refl, sym, ap, _∙_, subst}
+use Prim.Native.Nat.{ℕ, _*_, _≤_}
+use lib.Dec.{leb}
+use lib.ListN.{length, getD, take}
+use Rattle.roles.specs.Role.{Chain}
+use Rattle.roles.specs.Rule.{Book}
+use Rattle.base.specs.Result.{Result, and-then}
+use Rattle.base.specs.Result.Result.{refused, ok}
+use Rattle.book_causes.specs.Accepted.{heads-of, moves-of, built, written}
+use Rattle.book_causes.specs.AcceptedLaws.{built-enough}
+use Rattle.query_causes.specs.Query.{question, Answered}
+use Rattle.query_correctness.specs.Reply.{posed}
+use Rattle.query_correctness.specs.Reply.Replied.{refuses, settled}
+use Rattle.query_correctness.specs.ReplyLaws.{decided, posed-fits, posed-refused, replied-refused}
+use Rattle.refusals.specs.declared.refusal.Refusal.{Refusal}
+use Rattle.refusals.specs.Refusal.{cause-of, value-of}
+use Rattle.query_checker.specs.declared.refusal.QueryRefusal.{QueryRefusal}
+use Rattle.query_checker.specs.declared.Question.{Question as Found}
+use Rattle.query_checker.specs.Question.{cause-of as question-cause-of, says as found-says}
+use Rattle.query_answerer.specs.declared.Answer.{Answer}
+use Rattle.query_answerer.specs.Answer.{says as answer-says}
+use Rattle.table_builder.specs.declared.Counts.{Counts}
+use Rattle.table_builder.specs.declared.Outcome.the-variants.{Built, Refused}
+use Rattle.table_builder.specs.Builds.{Builds}
+use Rattle.table_builder.specs.WrittenLaws.{own, written-heads, written-moves, refused-by}
+use Rattle.query_deriver.specs.declared.Reply.{Reply}
+use Rattle.query_deriver.specs.declared.Reply.the-variants.{Question, Book as Refused-book}
+use Rattle.query_deriver.specs.Replies.{says, Replies}
+
+-- what the tables answer, as a reply
+pub replied-as : (h m : List ℕ) (r : ℕ) (w : Chain) (a v : Answer) → Answered h m r w (answer-says a) → a ≡ v → (x : Reply)
+    → answer-says v ≡ says x → Answered h m r w (says x)
+replied-as h m r w a v t e x f = subst (Answered h m r w) (ap answer-says e ∙ f) t
+
+-- what is found of a question for the names that a book says it has
+pub found : (s : List ℕ) (n r : ℕ) (w : Chain) → n ≡ getD s 5 0 → (x y : Found) → found-says x ≡ question n r w → x ≡ y
+    → question (getD s 5 0) r w ≡ found-says y
+found s n r w e x y h f = sym (ap (λ (k : ℕ). question k r w) e) ∙ sym h ∙ ap found-says f
+
+-- a question that is refused writes nothing
+kept : (t : Result Book) (c v : ℕ) (table : Book → List ℕ) (old : List ℕ) → written (and-then t (λ _. refused c v)) table old ≡ old
+kept (refused d u) c v table old = refl
+kept (ok b) c v table old = refl
+
+pub replies-kept : (s h m : List ℕ) (r : ℕ) (w : Chain) (c v : ℕ) → question (getD s 5 0) r w ≡ refused c v → (a : Reply)
+    → says a ≡ and-then (built s (length h) (length m)) (λ _. refused c v) → Replies s h m r w h m a
+replies-kept s h m r w c v q a e =
+    let p = posed-refused s (length h) (length m) r w c v q in
+    record {
+      answer = rw e (replied-refused s (length h) (length m) r w c v q);
+      heads = rw p (sym (kept (built s (length h) (length m)) c v heads-of h));
+      moves = rw p (sym (kept (built s (length h) (length m)) c v moves-of m));
+    }
+
+module _ (s h m h′ m′ : List ℕ) where
+  -- what a build on other tables says of those lent, if both have as many numbers as any book needs, or the same
+  module _ (heads moves a b : ℕ) (i : length h ≡ a) (j : length m ≡ b) (f : (n : ℕ) → n ≤ 64 → leb n a ≡ leb n heads)
+      (g : (n : ℕ) → n ≤ 15360 → leb n b ≡ leb n moves) (x : QueryRefusal) where
+    same : built s (length h) (length m) ≡ built s heads moves
+    same = rw (i, j) (built-enough a b heads moves f g s)
+
+    pub says-book : (y : Refusal) → Builds s h m h′ m′ (Refused y)
+        → says (Refused-book y) ≡ and-then (built s heads moves) (λ _. refused (question-cause-of x) 0)
+    says-book y p = rw (sym same ∙ refused-by s h m h′ m′ y p) refl
+
+    pub says-question : (c : Counts) → Builds s h m h′ m′ (Built c)
+        → says (Question x) ≡ and-then (built s heads moves) (λ _. refused (question-cause-of x) 0)
+    says-question c p = rw (sym same ∙ own s h m h′ m′ c p .accepts) refl
+
+  module _ (r : ℕ) (w : Chain) (q : question (getD s 5 0) r w ≡ ok tt) where
+    put-to : posed s (length h) (length m) r w ≡ built s (length h) (length m)
+    put-to = posed-fits s (length h) (length m) r w q
+
+    pub replies-settled : (c : Counts) → Builds s h m h′ m′ (Built c)
+        → (a : Reply) → Answered (take (c .names) h′) (take (3 * c .transitions) m′) r w (says a) → Replies s h m r w h′ m′ a
+    replies-settled c p a t =
+        let book = own s h m h′ m′ c p in
+        let heads = written-heads s h m h′ m′ c p in
+        let moves = written-moves s h m h′ m′ c p in
+        let tables : Answered (heads-of (book .book)) (moves-of (book .book)) r w (says a) = rw (heads, moves) at t in
+        record {
+          answer = settled (book .book) (says a) (book .accepts) (decided s (length h) (length m) (book .book) (book .accepts) r w (says a) tables);
+          heads = rw put-to (p .heads);
+          moves = rw put-to (p .moves);
+        }
+
+    pub replies-refused : (x : Refusal) → Builds s h m h′ m′ (Refused x) → Replies s h m r w h′ m′ (Refused-book x)
+    replies-refused x p =
+        record {
+          answer = refuses (cause-of x) (value-of x) (refused-by s h m h′ m′ x p);
+          heads = rw put-to (p .heads);
+          moves = rw put-to (p .moves);
+        }

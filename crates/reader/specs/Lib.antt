@@ -1,4 +1,0 @@
-pub mod Entered
-pub mod EnteredLaws
-pub mod ShortLaws
-pub mod SearchLaws

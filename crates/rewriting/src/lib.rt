@@ -1,0 +1,1 @@
+// Theorems alone, in specs/: replacements between chains. No code runs here.

@@ -1,0 +1,15 @@
+pub mod Lay
+pub mod Memo
+pub mod ShiftLaws
+pub mod LayLaws
+pub mod RowLaws
+pub mod RowsLaws
+pub mod FragmentLaws
+pub mod MemoLaws
+pub mod AgainLaws
+pub mod RootsLaws
+pub mod Builds
+pub mod WrittenLaws
+pub mod CountedLaws
+pub mod BuildsLaws
+pub mod RuleRowLaws

@@ -1,0 +1,5 @@
+pub mod Bound
+pub mod RoleSize
+pub mod FragmentSize
+pub mod RoleSizeLaws
+pub mod Sizes

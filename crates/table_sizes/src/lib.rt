@@ -1,0 +1,1 @@
+// Theorems alone, in specs/: how large tables can be. No code runs here.

@@ -1,0 +1,40 @@
+-- `part` meets its contract.
+use mathlib.Core.Path.{sym}
+use native.Mathlib.Omega.{arith}
+use borrow.Author.Needs.{needs}
+use Rattle.text_parts.specs.TextLaws.{between-past, between-none, between-some}
+use Rattle.text_parts.proofs.part.Statement.{statement}
+use Rattle.text_parts.proofs.part.Tie as tie
+
+slice-aggregate-result : tie.Need-slice-aggregate-result
+slice-aggregate-result c = search needs
+
+returns : tie.Need-returns
+returns c = sym (between-past (c .before .before .args .from) (c .before .before .args .end) (c .before .before .args .text .now) (c .before .if1 .taken))
+
+slice-aggregate-result-2 : tie.Need-slice-aggregate-result-2
+slice-aggregate-result-2 c = search needs
+
+returns-2 : tie.Need-returns-2
+returns-2 c = sym (between-none (c .before .before .before .args .from) (c .before .before .before .args .end) (c .before .before .before .args .text .now) (c .before .if2 .taken))
+
+part-result-start : tie.Need-part-result-start
+part-result-start c = search needs
+
+part-result-end : tie.Need-part-result-end
+part-result-end c = search needs
+
+returns-3 : tie.Need-returns-3
+returns-3 c = sym (between-some (c .before .before .before .args .from) (c .before .before .before .args .end) (c .before .before .before .args .text .now) (omega arith) (omega arith))
+
+pub part-spec : {M : Type 1} → statement M
+part-spec =
+    tie.close
+    (tie.spec
+    slice-aggregate-result
+    returns
+    slice-aggregate-result-2
+    returns-2
+    part-result-start
+    part-result-end
+    returns-3)

@@ -1,0 +1,11 @@
+pub mod Puts
+pub mod Said
+pub mod PutsLaws
+pub mod Found
+pub mod FoundLaws
+pub mod Opened
+pub mod OpenedLaws
+pub mod Advances
+pub mod AdvancesLaws
+pub mod KeptLaws
+pub mod SessionLaws
