@@ -15,13 +15,13 @@ use Rattle.order.specs.Closure.{inner-of, reaches, with-inner, with-rule, clash
 use Rattle.name_sets.specs.Mask.{has, Holds}
 use Rattle.name_sets.specs.MaskLaws.{has-or}
 use Rattle.order_masks.specs.AbsorbLaws.{holds-empty}
-use Rattle.order_checker.specs.declared.shape.Row.{Row as Inner}
-use Rattle.order_checker.specs.declared.shape.Shape.{Shape}
-use Rattle.order_checker.specs.declared.shape.Shape.the-variants.{Transitive, Symmetric, Row}
+use Rattle.rule_shapes.specs.declared.Row.{Row as Inner}
+use Rattle.rule_shapes.specs.declared.Shape.{Shape}
+use Rattle.rule_shapes.specs.declared.Shape.the-variants.{Transitive, Symmetric, Row}
 use Rattle.order_checker.specs.declared.Gathered.{Gathered}
 use Rattle.order_checker.specs.declared.Gathered.the-variants.{Extends, Clash}
-use Rattle.order_checker.specs.FoundShape.{shape-found, shape-in, Within}
-use Rattle.order_checker.specs.FoundShapeLaws.{found-shape, found-within}
+use Rattle.rule_shapes.specs.FoundShape.{shape-found, shape-in, Within}
+use Rattle.rule_shapes.specs.FoundShapeLaws.{found-shape, found-within}
 use Rattle.order_checker.specs.Gather.{gathered}
 use Rattle.order_checker.specs.Gather as Gather
 

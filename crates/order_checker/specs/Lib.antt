@@ -1,6 +1,4 @@
 pub mod Gather
-pub mod FoundShape
-pub mod FoundShapeLaws
 pub mod AddLaws
 pub mod FrontLaws
 pub mod GatherLaws

@@ -16,7 +16,6 @@ ghost use Rattle.book_decoder.specs.Verdict.{header-of, says};
 ghost use Rattle.order_checker.specs.Gather.{gathered, Transitive, Ordered, Gathered-order};
 
 mod masks;
-mod shape;
 
 use book_cursor::Cursor;
 use book_cursor::Step;
@@ -26,9 +25,8 @@ use masks::absorb;
 use masks::has;
 use masks::reached;
 use refusals::Refusal;
-pub use shape::Row;
-pub use shape::Shape;
-pub use shape::shape_of;
+use rule_shapes::Shape;
+use rule_shapes::shape_of;
 
 // The verdict on a book by causes 1 to 8 and, where it passes, a level for each name: the inner names of each rule are of lower level
 // than its right name. Levels are 0 where the book is refused.

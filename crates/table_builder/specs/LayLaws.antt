@@ -8,9 +8,9 @@ use Rattle.order.specs.Shape as Order
 use Rattle.book_format.specs.Place.{rule-at}
 use Rattle.rule_index.specs.RuleLinks.{rule}
 use Rattle.rule_index.specs.RuleIndex.{Indexed, place-in}
-use Rattle.order_checker.specs.FoundShape.{shape-in, shape-found}
-use Rattle.order_checker.specs.FoundShapeLaws.{found-shape}
-use Rattle.order_checker.specs.declared.shape.Shape.{Shape}
+use Rattle.rule_shapes.specs.FoundShape.{shape-in, shape-found}
+use Rattle.rule_shapes.specs.FoundShapeLaws.{found-shape}
+use Rattle.rule_shapes.specs.declared.Shape.{Shape}
 
 pub rule-shape : (s : List ℕ) (ρs : List Rule) (ix : List ℕ) → Indexed s ρs ix → (k at : ℕ) → k < length ρs → at ≡ place-in ix k
     → (sh : Shape) → sh ≡ shape-found (rule-at s at .left) (rule-at s at .right) → shape-in (rule-at s at .left) sh ≡ Order.shape (rule ρs k)

@@ -20,11 +20,11 @@ use Rattle.rule_index.specs.RuleLinks.{rule}
 use Rattle.rule_index.specs.RuleIndex.{Indexed, place-in, level-in}
 use Rattle.rule_index.specs.RuleIndexLaws.{rule-member}
 use Rattle.rule_index.specs.Facing.{Row-laid, row-straight, row-turned, row-none, part-part, inner-low}
-use Rattle.order_checker.specs.FoundShape.{end, shape-in, shape-found, Within}
-use Rattle.order_checker.specs.FoundShapeLaws.{found-within}
-use Rattle.order_checker.specs.declared.shape.Row.{Row as Inner}
-use Rattle.order_checker.specs.declared.shape.Shape.{Shape}
-use Rattle.order_checker.specs.declared.shape.Shape.the-variants.{Transitive, Symmetric, Row}
+use Rattle.rule_shapes.specs.FoundShape.{end, shape-in, shape-found, Within}
+use Rattle.rule_shapes.specs.FoundShapeLaws.{found-within}
+use Rattle.rule_shapes.specs.declared.Row.{Row as Inner}
+use Rattle.rule_shapes.specs.declared.Shape.{Shape}
+use Rattle.rule_shapes.specs.declared.Shape.the-variants.{Transitive, Symmetric, Row}
 use Rattle.table_builder.specs.Lay.{Lays, Inner-below}
 use Rattle.table_builder.specs.LayLaws.{rule-shape}
 use Rattle.table_builder.specs.declared.lay.Place.{Place}

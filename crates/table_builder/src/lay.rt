@@ -16,7 +16,7 @@ ghost use Rattle.table_laying.specs.Fragment.{second-letter, back-of, own-lette
 ghost use Rattle.book_format.specs.Place.{rule-at};
 ghost use Rattle.book_format.specs.FormatLaws.{Whole};
 ghost use Rattle.table_laying.specs.Own.{is-symmetric as symmetric-shape, is-transitive as transitive-shape};
-ghost use Rattle.order_checker.specs.FoundShape.{end, shape-in, shape-found};
+ghost use Rattle.rule_shapes.specs.FoundShape.{end, shape-in, shape-found};
 ghost use Rattle.table_builder.specs.Lay.{Small, Ready, Lays, Inner-below, Roots};
 ghost use Rattle.table_builder.specs.Memo.{Memo};
 use crate::index::first_of;
@@ -26,10 +26,10 @@ use crate::index::place_of;
 use crate::memo::again;
 use crate::memo::keep;
 use crate::memo::number;
-use order_checker::Shape;
-use order_checker::shape_of;
 use role_bytes::inverse;
 use role_bytes::name;
+use rule_shapes::Shape;
+use rule_shapes::shape_of;
 
 // The next free state and the number of transitions so far. A state above 2,048 says that the tables are too large; nothing more is laid
 // then. Transitions are counted up to 60,000, far more than tables of 2,048 states have.

@@ -16,9 +16,6 @@ Inv-loop book mark i₀ i = (i ≤ length mark) × ((k : ℕ) → k < i → getD
 abbrev μ-loop : tie.MeasureT-loop
 μ-loop book mark i₀ i = length mark - i
 
-loop-holds : tie.Need-loop-holds Inv-loop μ-loop
-loop-holds c = search needs
-
 shared-slice-read-if1 : tie.Need-shared-slice-read-if1 Inv-loop μ-loop
 shared-slice-read-if1 c = omega arith
 
@@ -27,12 +24,6 @@ shared-slice-read-if1-2 c = omega arith
 
 returns : tie.Need-returns Inv-loop μ-loop
 returns c = ap check (sym (prefix-differs (c .before .before .before .before .before .args .book .now) (c .before .before .before .before .before .args .mark .now) (c .before .before .before .before .loop .i) (c .before .before .before .loop-test .taken) (c .if1 .taken)))
-
-add-i : tie.Need-add-i Inv-loop μ-loop
-add-i c = search needs
-
-loop-less : tie.Need-loop-less Inv-loop μ-loop
-loop-less c = search needs
 
 loop-again : tie.Need-loop-again Inv-loop μ-loop
 loop-again c = (omega arith, below-more _ _ (c .before .before .before .before .loop .inv .1) (c .if1 .left))
@@ -46,11 +37,11 @@ begins-with-spec =
     (tie.spec
     Inv-loop
     μ-loop
-    loop-holds
+    (λ c. search needs)
     shared-slice-read-if1
     shared-slice-read-if1-2
     returns
-    add-i
-    loop-less
+    (λ c. search needs)
+    (λ c. search needs)
     loop-again
     returns-2)

@@ -20,24 +20,9 @@ abbrev μ-loop : tie.MeasureT-loop
 cast-right : tie.Need-cast-right Inv-loop μ-loop
 cast-right c = omega (arith, c .struct-known .given)
 
-mul-if1 : tie.Need-mul-if1 Inv-loop μ-loop
-mul-if1 c = search needs
-
 returns : tie.Need-returns Inv-loop μ-loop
 unfolding entry-rule
 returns c = ap check (sym (named-right (c .before .before .args .names) (c .before .before .args .rule .right) (c .before .before .args .book .now) (c .before .before .args .rule .start) (c .before .before .args .rule .size) (c .if1 .taken)))
-
-loop-holds : tie.Need-loop-holds Inv-loop μ-loop
-loop-holds c = search needs
-
-mul-if2 : tie.Need-mul-if2 Inv-loop μ-loop
-mul-if2 c = search needs
-
-add-if2 : tie.Need-add-if2 Inv-loop μ-loop
-add-if2 c = search needs
-
-shared-slice-read-if2 : tie.Need-shared-slice-read-if2 Inv-loop μ-loop
-shared-slice-read-if2 c = search needs
 
 cast-if2 : tie.Need-cast-if2 Inv-loop μ-loop
 cast-if2 c = omega (arith, c .shared-slice-known .given (c .before .before .before .before .before .args .rule .start + c .before .before .loop .i))
@@ -45,12 +30,6 @@ cast-if2 c = omega (arith, c .shared-slice-known .given (c .before .before .befo
 returns-2 : tie.Need-returns-2 Inv-loop μ-loop
 unfolding entry-rule
 returns-2 c = ap check (sym (named-left _ _ (c .before .before .before .before .before .before .args .book .now) (c .before .before .before .before .before .before .args .rule .start) (c .before .before .before .before .before .before .args .rule .size) (c .before .before .before .before .before .before .pre .1) (c .before .before .before .loop .i) (c .before .before .loop-test .taken) (c .if2 .taken)))
-
-add-i : tie.Need-add-i Inv-loop μ-loop
-add-i c = search needs
-
-loop-less : tie.Need-loop-less Inv-loop μ-loop
-loop-less c = search needs
 
 loop-again : tie.Need-loop-again Inv-loop μ-loop
 loop-again c = (omega arith, below-more _ _ (c .before .before .before .loop .inv .1) (c .if2 .left))
@@ -66,15 +45,15 @@ declared-spec =
     Inv-loop
     μ-loop
     cast-right
-    mul-if1
+    (λ c. search needs)
     returns
-    loop-holds
-    mul-if2
-    add-if2
-    shared-slice-read-if2
+    (λ c. search needs)
+    (λ c. search needs)
+    (λ c. search needs)
+    (λ c. search needs)
     cast-if2
     returns-2
-    add-i
-    loop-less
+    (λ c. search needs)
+    (λ c. search needs)
     loop-again
     returns-3)

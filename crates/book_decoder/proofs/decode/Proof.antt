@@ -10,41 +10,14 @@ use Rattle.base.specs.Result.{map-result}
 use Rattle.book_decoder.proofs.decode.Statement.{statement}
 use Rattle.book_decoder.proofs.decode.Tie as tie
 
-sized-requires : tie.Need-sized-requires
-sized-requires c κs = search needs
-
-enum-told : tie.Need-enum-told
-enum-told c = search needs
-
-enum-told-2 : tie.Need-enum-told-2
-enum-told-2 c = search needs
-
 returns : tie.Need-returns
 returns c = sym (ap (map-result header-of) (decode-size _ (check-failed _ _ (c .before .before .sized .ensures) (c .enum-told2 .given .1))))
-
-slice-aggregate-begins-with : tie.Need-slice-aggregate-begins-with
-slice-aggregate-begins-with c = search needs
 
 begins-with-requires : tie.Need-begins-with-requires
 begins-with-requires c κs = omega (arith, sized (c .before .before .before .before .before .args .book .now) (check-passed _ _ (c .before .before .before .sized .ensures) (c .before .enum-told .given .1)))
 
-enum-told-3 : tie.Need-enum-told-3
-enum-told-3 c = search needs
-
-enum-told-4 : tie.Need-enum-told-4
-enum-told-4 c = search needs
-
 returns-2 : tie.Need-returns-2
 returns-2 c = sym (ap (map-result header-of) (decode-mark _ (check-passed _ _ (c .before .before .before .before .before .before .sized .ensures) (c .before .before .before .before .enum-told .given .1)) (check-failed _ _ (c .before .before .begins-with .ensures) (c .enum-told4 .given .1))))
-
-versioned-requires : tie.Need-versioned-requires
-versioned-requires c κs = search needs
-
-enum-told-5 : tie.Need-enum-told-5
-enum-told-5 c = search needs
-
-enum-told-6 : tie.Need-enum-told-6
-enum-told-6 c = search needs
 
 returns-3 : tie.Need-returns-3
 returns-3 c = sym (ap (map-result header-of) (decode-version _ (check-passed _ _ (c .before .before .before .before .before .before .before .before .before .sized .ensures) (c .before .before .before .before .before .before .before .enum-told .given .1)) (check-passed _ _ (c .before .before .before .before .before .begins-with .ensures) (c .before .before .before .enum-told3 .given .1)) (check-failed _ _ (c .before .before .versioned .ensures) (c .enum-told6 .given .1))))
@@ -54,18 +27,6 @@ shared-slice-read-t13 c = omega (arith, sized (c .before .before .before .before
 
 cast-t14 : tie.Need-cast-t14
 cast-t14 c = omega (arith, c .shared-slice-known2 .given 5)
-
-word-requires : tie.Need-word-requires
-word-requires c κs = search needs
-
-ranged-requires : tie.Need-ranged-requires
-ranged-requires c κs = search needs
-
-enum-told-7 : tie.Need-enum-told-7
-enum-told-7 c = search needs
-
-enum-told-8 : tie.Need-enum-told-8
-enum-told-8 c = search needs
 
 returns-4 : tie.Need-returns-4
 returns-4 c =
@@ -90,25 +51,25 @@ pub decode-spec : {M : Type 1} → statement M
 decode-spec =
     tie.close
     (tie.spec
-    sized-requires
-    enum-told
-    enum-told-2
+    (λ c κs. search needs)
+    (λ c. search needs)
+    (λ c. search needs)
     returns
-    slice-aggregate-begins-with
+    (λ c. search needs)
     begins-with-requires
-    enum-told-3
-    enum-told-4
+    (λ c. search needs)
+    (λ c. search needs)
     returns-2
-    versioned-requires
-    enum-told-5
-    enum-told-6
+    (λ c κs. search needs)
+    (λ c. search needs)
+    (λ c. search needs)
     returns-3
     shared-slice-read-t13
     cast-t14
-    word-requires
-    ranged-requires
-    enum-told-7
-    enum-told-8
+    (λ c κs. search needs)
+    (λ c κs. search needs)
+    (λ c. search needs)
+    (λ c. search needs)
     returns-4
     decode-rules-requires
     returns-5)

@@ -20,33 +20,15 @@ Inv-loop book header names rules cursor₀ number₀ cursor number = (number ≤
 abbrev μ-loop : tie.MeasureT-loop
 μ-loop book header names rules cursor₀ number₀ cursor number = rules - number
 
-first-requires : tie.Need-first-requires Inv-loop μ-loop
-first-requires c κs = search needs
-
 loop-holds : tie.Need-loop-holds Inv-loop μ-loop
 unfolding rule-place
 loop-holds c = (omega arith, (c .first .ensures, running-start _ _ _))
-
-step-requires : tie.Need-step-requires Inv-loop μ-loop
-step-requires c κs = search needs
-
-enum-known-entry : tie.Need-enum-known-entry Inv-loop μ-loop
-enum-known-entry c = search needs
-
-enum-told : tie.Need-enum-told Inv-loop μ-loop
-enum-told c = search needs
 
 returns : tie.Need-returns Inv-loop μ-loop
 returns c = sym (ap (map-result header-of) (running-cut _ _ _ _ (c .before .before .before .loop-test .taken) (c .before .before .before .before .loop .inv .1 .1) (no-rule _ _ _ _ (c .before .before .before .before .loop .inv .1 .0) (c .before .before .step .ensures) (c .enum-told .given .1))))
 
 declared-requires : tie.Need-declared-requires Inv-loop μ-loop
 declared-requires c κs = (c .before .before .before .before .before .before .before .before .pre, at-rule _ _ _ _ _ _ (c .before .before .before .before .before .loop .inv .1 .0) (c .before .before .before .step .ensures) (c .before .entry .given .1) .fits)
-
-enum-told-2 : tie.Need-enum-told-2 Inv-loop μ-loop
-enum-told-2 c = search needs
-
-enum-told-3 : tie.Need-enum-told-3 Inv-loop μ-loop
-enum-told-3 c = search needs
 
 returns-2 : tie.Need-returns-2 Inv-loop μ-loop
 returns-2 c =
@@ -55,12 +37,6 @@ returns-2 c =
     (ap (map-result header-of)
     (running-undeclared _ _ _ _ (c .before .before .before .before .before .before .before .loop-test .taken) (c .before .before .before .before .before .before .before .before .loop .inv .1 .1) (a .whole)
     (named-entry _ _ _ _ _ _ a (check-failed _ _ (c .before .before .declared .ensures) (c .enum-told3 .given .1)))))
-
-add-number : tie.Need-add-number Inv-loop μ-loop
-add-number c = search needs
-
-loop-less : tie.Need-loop-less Inv-loop μ-loop
-loop-less c = search needs
 
 loop-again : tie.Need-loop-again Inv-loop μ-loop
 loop-again c =
@@ -72,15 +48,6 @@ loop-again c =
             (named-entry _ _ _ _ _ _ a (check-passed _ _ (c .before .before .declared .ensures) (c .enum-told2 .given .1))),
       ),
     )
-
-ended-requires : tie.Need-ended-requires Inv-loop μ-loop
-ended-requires c κs = search needs
-
-enum-told-4 : tie.Need-enum-told-4 Inv-loop μ-loop
-enum-told-4 c = search needs
-
-enum-told-5 : tie.Need-enum-told-5 Inv-loop μ-loop
-enum-told-5 c = search needs
 
 returns-3 : tie.Need-returns-3 Inv-loop μ-loop
 returns-3 c = sym (ap (map-result header-of) (running-after _ _ _ _ _ (let e : c .before .before .before .before .loop .number ≡ c .before .before .before .before .before .before .before .args .header .rules = omega arith in e) (c .before .before .before .before .loop .inv .1 .0) (c .before .before .before .before .loop .inv .1 .1) (leb-false _ _ (check-failed _ _ (c .before .before .ended .ensures) (c .enum-told5 .given .1)))))
@@ -98,21 +65,21 @@ decode-rules-spec =
     (tie.spec
     Inv-loop
     μ-loop
-    first-requires
+    (λ c κs. search needs)
     loop-holds
-    step-requires
-    enum-known-entry
-    enum-told
+    (λ c κs. search needs)
+    (λ c. search needs)
+    (λ c. search needs)
     returns
     declared-requires
-    enum-told-2
-    enum-told-3
+    (λ c. search needs)
+    (λ c. search needs)
     returns-2
-    add-number
-    loop-less
+    (λ c. search needs)
+    (λ c. search needs)
     loop-again
-    ended-requires
-    enum-told-4
-    enum-told-5
+    (λ c κs. search needs)
+    (λ c. search needs)
+    (λ c. search needs)
     returns-3
     returns-4)

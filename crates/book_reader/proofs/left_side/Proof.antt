@@ -11,35 +11,8 @@ use Rattle.roles.specs.Rule.{Rule}
 use Rattle.book_reader.proofs.left_side.Statement.{statement}
 use Rattle.book_reader.proofs.left_side.Tie as tie
 
-decode-requires : tie.Need-decode-requires
-decode-requires c κs = search needs
-
-enum-known-header : tie.Need-enum-known-header
-enum-known-header c = search needs
-
-enum-told : tie.Need-enum-told
-enum-told c = search needs
-
-sub-result : tie.Need-sub-result
-sub-result c = search needs
-
-part-result-start : tie.Need-part-result-start
-part-result-start c = search needs
-
-part-result-end : tie.Need-part-result-end
-part-result-end c = search needs
-
 returns : tie.Need-returns
 returns c = left-none _ _ (has-rule-refused _ _ _ _ (sym (ap says (c .before .enum-told .given .1)) ∙ c .before .before .before .decode .ensures))
-
-sub-result-2 : tie.Need-sub-result-2
-sub-result-2 c = search needs
-
-part-result-start-2 : tie.Need-part-result-start-2
-part-result-start-2 c = search needs
-
-part-result-end-2 : tie.Need-part-result-end-2
-part-result-end-2 c = search needs
 
 returns-2 : tie.Need-returns-2
 returns-2 c = left-none _ _ (has-rule-header _ _ _ (sym (ap says (c .before .before .before .header .given .1)) ∙ c .before .before .before .before .before .decode .ensures) ∙ le-ltb _ _ (c .before .if1 .taken))
@@ -47,35 +20,11 @@ returns-2 c = left-none _ _ (has-rule-header _ _ _ (sym (ap says (c .before .bef
 seek-requires : tie.Need-seek-requires
 seek-requires c κs = has-rule-header _ _ _ (sym (ap says (c .before .before .header .given .1)) ∙ c .before .before .before .before .decode .ensures) ∙ lt-ltb _ _ (c .if1 .left)
 
-step-requires : tie.Need-step-requires
-step-requires c κs = search needs
-
-enum-known-entry : tie.Need-enum-known-entry
-enum-known-entry c = search needs
-
-enum-told-2 : tie.Need-enum-told-2
-enum-told-2 c = search needs
-
-sub-result-3 : tie.Need-sub-result-3
-sub-result-3 c = search needs
-
-part-result-start-3 : tie.Need-part-result-start-3
-part-result-start-3 c = search needs
-
-part-result-end-3 : tie.Need-part-result-end-3
-part-result-end-3 c = search needs
-
 returns-3 : tie.Need-returns-3
 returns-3 c = absurd (some-rule _ _ _ _ (c .before .before .before .before .seek .ensures) (has-rule-whole _ _ (has-rule-header _ _ _ (sym (ap says (c .before .before .before .before .before .before .before .header .given .1)) ∙ c .before .before .before .before .before .before .before .before .before .decode .ensures) ∙ lt-ltb _ _ (c .before .before .before .before .before .if1 .left)) (c .before .before .before .before .before .before .before .before .before .before .before .args .rule) (omega arith)) (c .before .before .before .step .ensures) (c .before .enum-told2 .given .1))
 
 add-end : tie.Need-add-end
 add-end c = omega (arith, at-rule (c .before .before .before .before .before .before .before .before .before .before .before .before .args .book .now) (c .before .before .before .before .before .before .before .before .before .before .before .before .args .rule) _ _ _ _ (c .before .before .before .before .before .seek .ensures) (c .before .before .before .before .step .ensures) (c .before .before .entry .given .1) .fits)
-
-sub-result-4 : tie.Need-sub-result-4
-sub-result-4 c = search needs
-
-part-result-start-4 : tie.Need-part-result-start-4
-part-result-start-4 c = search needs
 
 part-result-end-4 : tie.Need-part-result-end-4
 part-result-end-4 c = omega (arith, at-rule (c .before .before .before .before .before .before .before .before .before .before .before .before .args .book .now) (c .before .before .before .before .before .before .before .before .before .before .before .before .args .rule) _ _ _ _ (c .before .before .before .before .before .seek .ensures) (c .before .before .before .before .step .ensures) (c .before .before .entry .given .1) .fits)
@@ -90,27 +39,27 @@ pub left-side-spec : {M : Type 1} → statement M
 left-side-spec =
     tie.close
     (tie.spec
-    decode-requires
-    enum-known-header
-    enum-told
-    sub-result
-    part-result-start
-    part-result-end
+    (λ c κs. search needs)
+    (λ c. search needs)
+    (λ c. search needs)
+    (λ c. search needs)
+    (λ c. search needs)
+    (λ c. search needs)
     returns
-    sub-result-2
-    part-result-start-2
-    part-result-end-2
+    (λ c. search needs)
+    (λ c. search needs)
+    (λ c. search needs)
     returns-2
     seek-requires
-    step-requires
-    enum-known-entry
-    enum-told-2
-    sub-result-3
-    part-result-start-3
-    part-result-end-3
+    (λ c κs. search needs)
+    (λ c. search needs)
+    (λ c. search needs)
+    (λ c. search needs)
+    (λ c. search needs)
+    (λ c. search needs)
     returns-3
     add-end
-    sub-result-4
-    part-result-start-4
+    (λ c. search needs)
+    (λ c. search needs)
     part-result-end-4
     returns-4)

@@ -16,30 +16,12 @@ Inv-loop book rule cursor₀ passed₀ cursor passed = (passed ≤ rule) × (cur
 abbrev μ-loop : tie.MeasureT-loop
 μ-loop book rule cursor₀ passed₀ cursor passed = rule - passed
 
-first-requires : tie.Need-first-requires Inv-loop μ-loop
-first-requires c κs = search needs
-
 loop-holds : tie.Need-loop-holds Inv-loop μ-loop
 unfolding rule-place
 loop-holds c = (omega arith, c .first .ensures)
 
-step-requires : tie.Need-step-requires Inv-loop μ-loop
-step-requires c κs = search needs
-
-enum-known-next : tie.Need-enum-known-next Inv-loop μ-loop
-enum-known-next c = search needs
-
-enum-told : tie.Need-enum-told Inv-loop μ-loop
-enum-told c = search needs
-
 returns : tie.Need-returns Inv-loop μ-loop
 returns c = absurd (some-rule _ _ _ _ (c .before .before .before .before .loop .inv .1) (has-rule-whole _ _ (c .before .before .before .before .before .before .before .pre) (c .before .before .before .before .loop .passed) (c .before .before .before .before .loop .inv .0)) (c .before .before .step .ensures) (c .enum-told .given .1))
-
-add-passed : tie.Need-add-passed Inv-loop μ-loop
-add-passed c = search needs
-
-loop-less : tie.Need-loop-less Inv-loop μ-loop
-loop-less c = search needs
 
 loop-again : tie.Need-loop-again Inv-loop μ-loop
 loop-again c = (omega arith, place-next _ _ _ _ (c .before .before .before .before .before .loop .inv .1) (step-rule _ _ _ _ _ (c .before .before .before .step .ensures) (c .before .next .given .1) .place))
@@ -53,13 +35,13 @@ seek-spec =
     (tie.spec
     Inv-loop
     μ-loop
-    first-requires
+    (λ c κs. search needs)
     loop-holds
-    step-requires
-    enum-known-next
-    enum-told
+    (λ c κs. search needs)
+    (λ c. search needs)
+    (λ c. search needs)
     returns
-    add-passed
-    loop-less
+    (λ c. search needs)
+    (λ c. search needs)
     loop-again
     returns-2)

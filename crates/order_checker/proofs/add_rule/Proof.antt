@@ -10,35 +10,17 @@ use borrow.Author.Needs.{needs}
 use Rattle.order_checker.proofs.add_rule.Statement.{statement}
 use Rattle.order_checker.proofs.add_rule.Tie as tie
 
-shape-of-requires : tie.Need-shape-of-requires
-shape-of-requires c κs = search needs
-
-enum-known-row : tie.Need-enum-known-row
-enum-known-row c = search needs
-
 returns : tie.Need-returns
 returns c = added-none _ _ (no-inner _ _ _ (c .before .shape-of .ensures) (λ row e. ⊎-elim (λ z. omega arith) (λ z. omega arith) (rw e at (c .match .keys2))))
 
 add-end : tie.Need-add-end
 add-end c = omega (arith, row-within _ _ _ (c .before .before .before .before .shape-of .ensures) _ (c .before .before .row .given .1), c .before .before .before .before .before .before .before .good)
 
-sub-reached : tie.Need-sub-reached
-sub-reached c = search needs
-
-part-reached-start : tie.Need-part-reached-start
-part-reached-start c = search needs
-
 part-reached-end : tie.Need-part-reached-end
 part-reached-end c = row-within _ _ _ (c .before .before .before .before .shape-of .ensures) _ (c .before .before .row .given .1)
 
 reached-requires : tie.Need-reached-requires
 reached-requires c κs = let row = c .before .before .before .before .row .given .0 .0 in (named-part _ (c .before .before .before .before .before .before .before .before .before .args .right) (c .before .before .before .before .before .before .before .before .before .args .left .now) (c .before .before .before .before .before .before .before .before .before .pre .0) (row .start) (row .start + row .size - row .start), c .before .before .before .before .before .before .before .before .before .pre .1)
-
-name-requires : tie.Need-name-requires
-name-requires c κs = search needs
-
-cast-over : tie.Need-cast-over
-cast-over c = search needs
 
 -- the right name has a mask
 over-masked : (c : tie.After-name) → c .name .result < length (c .before .before .before .before .before .before .before .before .before .before .before .args .masks .now)
@@ -50,29 +32,17 @@ over-small c = omega (arith, over-masked c, c .before .before .before .before .b
 has-requires : tie.Need-has-requires
 has-requires c κs = over-small c
 
-same-length : tie.Need-same-length
-same-length c = search needs
-
 returns-2 : tie.Need-returns-2
 returns-2 c = added-clash _ _ _ (row-inner _ _ _ (c .before .before .before .before .before .before .before .before .before .before .shape-of .ensures) _ (c .before .before .before .before .before .before .before .before .row .given .1)) _ (c .before .before .before .reached .ensures) _ (c .before .before .name .ensures) (over-small (c .before .before)) _ (sym (c .before .has .ensures) ∙ c .if1 .taken)
 
-mul-below : tie.Need-mul-below
-mul-below c = search needs
-
 slice-read-below : tie.Need-slice-read-below
 slice-read-below c = over-masked (c .before .before .before)
-
-same-length-2 : tie.Need-same-length-2
-same-length-2 c = search needs
 
 returns-3 : tie.Need-returns-3
 returns-3 c = added-known _ _ _ (row-inner _ _ _ (c .before .before .before .before .before .before .before .before .before .before .before .before .shape-of .ensures) _ (c .before .before .before .before .before .before .before .before .before .before .row .given .1)) _ (c .before .before .before .before .before .reached .ensures) _ (c .before .before .before .before .name .ensures) (over-small (c .before .before .before .before)) (sym (c .before .before .before .has .ensures) ∙ c .before .before .if1 .left) (c .if2 .taken)
 
 absorb-requires : tie.Need-absorb-requires
 absorb-requires c κs = (over-masked (c .before .before .before .before .before), c .before .before .before .before .before .before .before .before .before .before .before .before .before .before .before .before .pre .1)
-
-same-length-3 : tie.Need-same-length-3
-same-length-3 c = search needs
 
 returns-4 : tie.Need-returns-4
 returns-4 c = added-extends _ _ _ (row-inner _ _ _ (c .before .before .before .before .before .before .before .before .before .before .before .before .before .before .before .before .shape-of .ensures) _ (c .before .before .before .before .before .before .before .before .before .before .before .before .before .before .row .given .1)) _ (c .before .before .before .before .before .before .before .before .before .reached .ensures) _ (c .before .before .before .before .before .before .before .before .name .ensures) (over-small (c .before .before .before .before .before .before .before .before)) _ (sym (c .before .before .before .before .before .before .before .has .ensures) ∙ c .before .before .before .before .before .before .if1 .left) (c .before .before .absorb .ensures)
@@ -81,23 +51,23 @@ pub add-rule-spec : {M : Type 1} → statement M
 add-rule-spec =
     tie.close
     (tie.spec
-    shape-of-requires
-    enum-known-row
+    (λ c κs. search needs)
+    (λ c. search needs)
     returns
     add-end
-    sub-reached
-    part-reached-start
+    (λ c. search needs)
+    (λ c. search needs)
     part-reached-end
     reached-requires
-    name-requires
-    cast-over
+    (λ c κs. search needs)
+    (λ c. search needs)
     has-requires
-    same-length
+    (λ c. search needs)
     returns-2
-    mul-below
+    (λ c. search needs)
     slice-read-below
-    same-length-2
+    (λ c. search needs)
     returns-3
     absorb-requires
-    same-length-3
+    (λ c. search needs)
     returns-4)

@@ -19,23 +19,8 @@ abbrev μ-loop : tie.MeasureT-loop
 loop-holds : tie.Need-loop-holds Inv-loop μ-loop
 loop-holds c = (omega arith, counting-start _)
 
-mul-mask : tie.Need-mul-mask Inv-loop μ-loop
-mul-mask c = search needs
-
-shared-slice-read-mask : tie.Need-shared-slice-read-mask Inv-loop μ-loop
-shared-slice-read-mask c = search needs
-
 cast-levels : tie.Need-cast-levels Inv-loop μ-loop
 cast-levels c = omega (arith, ones-le 64 _ (c .before .shared-slice-known .given (c .before .before .before .loop .x) .fits))
-
-array-write-levels : tie.Need-array-write-levels Inv-loop μ-loop
-array-write-levels c = search needs
-
-add-x : tie.Need-add-x Inv-loop μ-loop
-add-x c = search needs
-
-loop-less : tie.Need-loop-less Inv-loop μ-loop
-loop-less c = search needs
 
 loop-again : tie.Need-loop-again Inv-loop μ-loop
 loop-again c = (
@@ -56,11 +41,11 @@ counted-spec =
     Inv-loop
     μ-loop
     loop-holds
-    mul-mask
-    shared-slice-read-mask
+    (λ c. search needs)
+    (λ c. search needs)
     cast-levels
-    array-write-levels
-    add-x
-    loop-less
+    (λ c. search needs)
+    (λ c. search needs)
+    (λ c. search needs)
     loop-again
     returns)

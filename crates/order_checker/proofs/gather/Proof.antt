@@ -16,24 +16,9 @@ Inv-loop book header masks₀ rules cursor₀ number₀ masks cursor number = (n
 abbrev μ-loop : tie.MeasureT-loop
 μ-loop book header masks₀ rules cursor₀ number₀ masks cursor number = rules - number
 
-first-requires : tie.Need-first-requires Inv-loop μ-loop
-first-requires c κs = search needs
-
 loop-holds : tie.Need-loop-holds Inv-loop μ-loop
 unfolding rule-place
 loop-holds c = (omega arith, (c .first .ensures, (c .before .before .before .pre .1 .0, gathers-start _ _ (c .before .before .before .pre .1 .1))))
-
-step-requires : tie.Need-step-requires Inv-loop μ-loop
-step-requires c κs = search needs
-
-enum-known-entry : tie.Need-enum-known-entry Inv-loop μ-loop
-enum-known-entry c = search needs
-
-enum-told : tie.Need-enum-told Inv-loop μ-loop
-enum-told c = search needs
-
-same-length : tie.Need-same-length Inv-loop μ-loop
-same-length c = search needs
 
 returns : tie.Need-returns Inv-loop μ-loop
 returns c = absurd (some-rule _ _ _ _ (c .before .before .before .before .loop .inv .1 .0) (whole-rule _ _ (c .before .before .before .before .before .before .before .before .pre .0) (c .before .before .before .before .loop .number) (c .before .before .before .loop-test .taken)) (c .before .before .step .ensures) (c .enum-told .given .1))
@@ -45,35 +30,14 @@ entry-at c = at-rule _ _ _ _ _ _ (c .before .before .before .before .loop .inv .
 add-end : tie.Need-add-end Inv-loop μ-loop
 add-end c = omega (arith, entry-at (c .before .before) .fits, c .before .before .before .before .before .before .before .before .before .before .good)
 
-sub-add-rule : tie.Need-sub-add-rule Inv-loop μ-loop
-sub-add-rule c = search needs
-
-part-add-rule-start : tie.Need-part-add-rule-start Inv-loop μ-loop
-part-add-rule-start c = search needs
-
 part-add-rule-end : tie.Need-part-add-rule-end Inv-loop μ-loop
 part-add-rule-end c = entry-at (c .before .before) .fits
 
 add-rule-requires : tie.Need-add-rule-requires Inv-loop μ-loop
 add-rule-requires c κs = (rw (c .before .before .before .before .before .before .before .before .loop .inv .1 .1 .0) (named-rule _ _ (c .before .before .before .before .before .before .before .before .before .before .before .before .pre .0) (c .before .before .before .before .before .before .before .before .loop .number) (c .before .before .before .before .before .before .before .loop-test .taken) _ (handed-rule _ _ _ _ (entry-at (c .before .before .before .before)))), rw (c .before .before .before .before .before .before .before .before .loop .inv .1 .1 .0) (few-names _ _ (c .before .before .before .before .before .before .before .before .before .before .before .before .pre .0)))
 
-enum-told-2 : tie.Need-enum-told-2 Inv-loop μ-loop
-enum-told-2 c = search needs
-
-enum-told-3 : tie.Need-enum-told-3 Inv-loop μ-loop
-enum-told-3 c = search needs
-
-same-length-2 : tie.Need-same-length-2 Inv-loop μ-loop
-same-length-2 c = search needs
-
 returns-2 : tie.Need-returns-2 Inv-loop μ-loop
 returns-2 c = (gathers-clash _ _ (c .before .before .before .before .before .before .before .before .before .before .before .before .before .before .before .before .before .pre .0) (c .before .before .before .before .before .before .before .before .before .before .before .before .before .loop .number) (c .before .before .before .before .before .before .before .before .before .before .before .before .loop-test .taken) _ (handed-rule _ _ _ _ (entry-at (c .before .before .before .before .before .before .before .before .before))) _ _ _ (c .before .before .before .before .add-rule .ensures) (c .before .before .before .before .before .before .before .before .before .before .before .before .before .loop .inv .1 .1 .1) (c .enum-told3 .given .1), tt)
-
-add-number : tie.Need-add-number Inv-loop μ-loop
-add-number c = search needs
-
-loop-less : tie.Need-loop-less Inv-loop μ-loop
-loop-less c = search needs
 
 loop-again : tie.Need-loop-again Inv-loop μ-loop
 loop-again c = (
@@ -87,9 +51,6 @@ loop-again c = (
   ),
 )
 
-same-length-3 : tie.Need-same-length-3 Inv-loop μ-loop
-same-length-3 c = search needs
-
 returns-3 : tie.Need-returns-3 Inv-loop μ-loop
 returns-3 c = gathers-end _ _ (c .before .before .before .before .before .pre .0) _ _ (c .loop-test .left) (c .before .loop .inv .1 .1 .1)
 
@@ -99,24 +60,24 @@ gather-spec =
     (tie.spec
     Inv-loop
     μ-loop
-    first-requires
+    (λ c κs. search needs)
     loop-holds
-    step-requires
-    enum-known-entry
-    enum-told
-    same-length
+    (λ c κs. search needs)
+    (λ c. search needs)
+    (λ c. search needs)
+    (λ c. search needs)
     returns
     add-end
-    sub-add-rule
-    part-add-rule-start
+    (λ c. search needs)
+    (λ c. search needs)
     part-add-rule-end
     add-rule-requires
-    enum-told-2
-    enum-told-3
-    same-length-2
+    (λ c. search needs)
+    (λ c. search needs)
+    (λ c. search needs)
     returns-2
-    add-number
-    loop-less
+    (λ c. search needs)
+    (λ c. search needs)
     loop-again
-    same-length-3
+    (λ c. search needs)
     returns-3)

@@ -16,15 +16,6 @@ use Rattle.book_decoder.specs.Verdict.{header-of, says}
 use Rattle.order_checker.proofs.order.Statement.{statement}
 use Rattle.order_checker.proofs.order.Tie as tie
 
-read-requires : tie.Need-read-requires
-read-requires c κs = search needs
-
-enum-known-verdict : tie.Need-enum-known-verdict
-enum-known-verdict c = search needs
-
-enum-told : tie.Need-enum-told
-enum-told c = search needs
-
 returns : tie.Need-returns
 returns c =
     let r = ap says (c .enum-told .given .1) in
@@ -50,12 +41,6 @@ slice-aggregate-gather c = sym (as-many (c .before))
 gather-requires : tie.Need-gather-requires
 gather-requires c κs = (ok-header (c .before), (as-many (c .before), holds-front (c .before .before .verdict .given .0 .0 .names) (replicate 64 0) holds-none))
 
-enum-told-2 : tie.Need-enum-told-2
-enum-told-2 c = search needs
-
-enum-told-3 : tie.Need-enum-told-3
-enum-told-3 c = search needs
-
 returns-2 : tie.Need-returns-2
 returns-2 c = order-refused _ _ (c .before .before .before .gather .ensures .0) _ _ (ap says (c .enum-told3 .given .1))
 
@@ -75,15 +60,15 @@ pub order-spec : {M : Type 1} → statement M
 order-spec =
     tie.close
     (tie.spec
-    read-requires
-    enum-known-verdict
-    enum-told
+    (λ c κs. search needs)
+    (λ c. search needs)
+    (λ c. search needs)
     returns
     array-borrow-prefix-masks
     slice-aggregate-gather
     gather-requires
-    enum-told-2
-    enum-told-3
+    (λ c. search needs)
+    (λ c. search needs)
     returns-2
     array-share-prefix-masks
     slice-aggregate-counted

@@ -10,17 +10,11 @@ use Rattle.program.proofs.finish.Tie as tie
 slice-aggregate-last-line : tie.Need-slice-aggregate-last-line
 slice-aggregate-last-line c = sym (length-take-le _ _ (c .before .before .pre))
 
-last-line-requires : tie.Need-last-line-requires
-last-line-requires c κs = search needs
-
 array-share-prefix-line : tie.Need-array-share-prefix-line
 array-share-prefix-line c = puts-counts (c .last-line .ensures) .0
 
 slice-aggregate-write-all : tie.Need-slice-aggregate-write-all
 slice-aggregate-write-all c = puts-counts (c .before .last-line .ensures) .1
-
-write-all-requires : tie.Need-write-all-requires
-write-all-requires c κs = search needs
 
 returns : tie.Need-returns
 returns c = inr refl
@@ -33,9 +27,9 @@ finish-spec =
     tie.close
     (tie.spec
     slice-aggregate-last-line
-    last-line-requires
+    (λ c κs. search needs)
     array-share-prefix-line
     slice-aggregate-write-all
-    write-all-requires
+    (λ c κs. search needs)
     returns
     returns-2)

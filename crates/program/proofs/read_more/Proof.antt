@@ -9,26 +9,11 @@ use Rattle.program.proofs.read_more.Tie as tie
 returns : tie.Need-returns
 returns c = reads-none (c .before .before .pre .1)
 
-sub-read-once : tie.Need-sub-read-once
-sub-read-once c = search needs
-
-part-read-once-start : tie.Need-part-read-once-start
-part-read-once-start c = search needs
-
-part-read-once-end : tie.Need-part-read-once-end
-part-read-once-end c = search needs
-
 read-once-requires : tie.Need-read-once-requires
 read-once-requires c κs =
     let broken = sym (c .before .before .before .pre .2) ∙ (c .before .if1 .left) in
     let short = kept-short _ _ (λ i. omega (arith, c .before .before .slice-known .given i)) (c .before .before .before .pre .1) broken in
     some-room (c .before .before .before .args .kept) (c .before .before .before .args .input .now) (omega (arith, short, c .before .before .before .pre .0))
-
-add-result : tie.Need-add-result
-add-result c = search needs
-
-same-length : tie.Need-same-length
-same-length c = search needs
 
 returns-2 : tie.Need-returns-2
 returns-2 c = reads-behind _ _ (c .before .before .read-once .last .0) _ (c .before .before .before .before .if1 .left) (c .before .before .before .before .before .before .pre .1) (search needs) (c .before .before .read-once .ensures)
@@ -38,10 +23,10 @@ read-more-spec =
     tie.close
     (tie.spec
     returns
-    sub-read-once
-    part-read-once-start
-    part-read-once-end
+    (λ c. search needs)
+    (λ c. search needs)
+    (λ c. search needs)
     read-once-requires
-    add-result
-    same-length
+    (λ c. search needs)
+    (λ c. search needs)
     returns-2)

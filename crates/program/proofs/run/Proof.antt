@@ -7,38 +7,17 @@ use Rattle.program.specs.RanLaws.{ran-refused, ran-served}
 use Rattle.program.proofs.run.Statement.{statement}
 use Rattle.program.proofs.run.Tie as tie
 
-slice-aggregate-read-book : tie.Need-slice-aggregate-read-book
-slice-aggregate-read-book c = search needs
-
-read-book-requires : tie.Need-read-book-requires
-read-book-requires c κs = search needs
-
-array-share-prefix-book : tie.Need-array-share-prefix-book
-array-share-prefix-book c = search needs
-
-slice-aggregate-open : tie.Need-slice-aggregate-open
-slice-aggregate-open c = search needs
-
-open-requires : tie.Need-open-requires
-open-requires c κs = search needs
-
 array-share-prefix-line : tie.Need-array-share-prefix-line
 array-share-prefix-line c = puts-counts (c .«open» .ensures .puts) .0
 
 slice-aggregate-write-all : tie.Need-slice-aggregate-write-all
 slice-aggregate-write-all c = puts-counts (c .before .«open» .ensures .puts) .1
 
-write-all-requires : tie.Need-write-all-requires
-write-all-requires c κs = search needs
-
 returns : tie.Need-returns
 returns c = unwritten
 
 returns-2 : tie.Need-returns-2
 returns-2 c = ran-refused (c .before .before .before .before .before .«open» .ensures) (not-true _ (c .if2 .taken))
-
-serve-requires : tie.Need-serve-requires
-serve-requires c κs = search needs
 
 returns-3 : tie.Need-returns-3
 returns-3 c = ran-served (c .before .before .before .before .before .before .before .«open» .ensures) (not-false _ (c .before .before .if2 .left)) (c .serve .ensures)
@@ -47,15 +26,15 @@ pub run-spec : {M : Type 1} → statement M
 run-spec =
     tie.close
     (tie.spec
-    slice-aggregate-read-book
-    read-book-requires
-    array-share-prefix-book
-    slice-aggregate-open
-    open-requires
+    (λ c. search needs)
+    (λ c κs. search needs)
+    (λ c. search needs)
+    (λ c. search needs)
+    (λ c κs. search needs)
     array-share-prefix-line
     slice-aggregate-write-all
-    write-all-requires
+    (λ c κs. search needs)
     returns
     returns-2
-    serve-requires
+    (λ c κs. search needs)
     returns-3)

@@ -22,23 +22,11 @@ Inv-loop tables input₀ out₀ number₀ kept₀ left₀ turns₀ input out num
 abbrev μ-loop : tie.MeasureT-loop
 μ-loop tables input₀ out₀ number₀ kept₀ left₀ turns₀ input out number kept left turns = turns
 
-question-buffer-requires : tie.Need-question-buffer-requires Inv-loop μ-loop
-question-buffer-requires c κs = search needs
-
 loop-holds : tie.Need-loop-holds Inv-loop μ-loop
 loop-holds c = (sym (c .question-buffer .ensures), length-replicate {A = ℕ} 65536 0, omega arith, serving-none)
 
-slice-aggregate-read-more : tie.Need-slice-aggregate-read-more Inv-loop μ-loop
-slice-aggregate-read-more c = search needs
-
 read-more-requires : tie.Need-read-more-requires Inv-loop μ-loop
 read-more-requires c κs = (omega (arith, c .before .before .before .loop .inv .0), c .before .before .before .loop .inv .2, c .before .before .before .loop .inv .3 .whole)
-
-ended-requires : tie.Need-ended-requires Inv-loop μ-loop
-ended-requires c κs = search needs
-
-slice-aggregate-finish : tie.Need-slice-aggregate-finish Inv-loop μ-loop
-slice-aggregate-finish c = search needs
 
 finish-requires : tie.Need-finish-requires Inv-loop μ-loop
 finish-requires c κs = rw (c .before .before .before .before .read-more .ensures .same) (c .before .before .before .before .before .before .before .before .loop .inv .2)
@@ -46,32 +34,14 @@ finish-requires c κs = rw (c .before .before .before .before .read-more .ensure
 returns : tie.Need-returns Inv-loop μ-loop
 returns c = serving-ends (c .before .before .before .before .before .before .before .before .before .loop .inv .3) (c .before .before .before .ended .ensures .over (c .before .before .if2 .taken) .0) (c .finish .ensures)
 
-slice-aggregate-answer-block : tie.Need-slice-aggregate-answer-block Inv-loop μ-loop
-slice-aggregate-answer-block c = search needs
-
-slice-aggregate-answer-block-2 : tie.Need-slice-aggregate-answer-block-2 Inv-loop μ-loop
-slice-aggregate-answer-block-2 c = search needs
-
-answer-block-requires : tie.Need-answer-block-requires Inv-loop μ-loop
-answer-block-requires c κs = search needs
-
 array-share-prefix-out : tie.Need-array-share-prefix-out Inv-loop μ-loop
 array-share-prefix-out c = puts-counts (c .before .before .answer-block .ensures .puts) .0
 
 slice-aggregate-write-all : tie.Need-slice-aggregate-write-all Inv-loop μ-loop
 slice-aggregate-write-all c = puts-counts (c .before .before .before .answer-block .ensures .puts) .1
 
-write-all-requires : tie.Need-write-all-requires Inv-loop μ-loop
-write-all-requires c κs = search needs
-
 returns-2 : tie.Need-returns-2 Inv-loop μ-loop
 returns-2 c = unwritten
-
-sub-turns : tie.Need-sub-turns Inv-loop μ-loop
-sub-turns c = search needs
-
-loop-less : tie.Need-loop-less Inv-loop μ-loop
-loop-less c = search needs
 
 loop-again : tie.Need-loop-again Inv-loop μ-loop
 loop-again c =
@@ -97,23 +67,23 @@ serve-spec =
     (tie.spec
     Inv-loop
     μ-loop
-    question-buffer-requires
+    (λ c κs. search needs)
     loop-holds
-    slice-aggregate-read-more
+    (λ c. search needs)
     read-more-requires
-    ended-requires
-    slice-aggregate-finish
+    (λ c κs. search needs)
+    (λ c. search needs)
     finish-requires
     returns
-    slice-aggregate-answer-block
-    slice-aggregate-answer-block-2
-    answer-block-requires
+    (λ c. search needs)
+    (λ c. search needs)
+    (λ c κs. search needs)
     array-share-prefix-out
     slice-aggregate-write-all
-    write-all-requires
+    (λ c κs. search needs)
     returns-2
-    sub-turns
-    loop-less
+    (λ c. search needs)
+    (λ c. search needs)
     loop-again
     returns-3
     returns-4)

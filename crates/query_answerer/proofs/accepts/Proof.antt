@@ -8,29 +8,14 @@ use Rattle.query_simulation.specs.QueryLaws.{fitting, named-role, letters}
 use Rattle.query_answerer.proofs.accepts.Statement.{statement}
 use Rattle.query_answerer.proofs.accepts.Tie as tie
 
-name-requires : tie.Need-name-requires
-name-requires c κs = search needs
-
-cast-head : tie.Need-cast-head
-cast-head c = search needs
-
-mul-head : tie.Need-mul-head
-mul-head c = search needs
-
 shared-slice-read-head : tie.Need-shared-slice-read-head
 shared-slice-read-head c = rw (c .before .name .ensures) (named-role _ _ _ _ (c .before .before .before .before .before .pre))
 
 cast-head-2 : tie.Need-cast-head-2
 cast-head-2 c = omega (arith, (c .shared-slice-known4 .given) (c .before .name .result))
 
-slice-aggregate-fill-within : tie.Need-slice-aggregate-fill-within
-slice-aggregate-fill-within c = search needs
-
 fill-within-requires : tie.Need-fill-within-requires
 fill-within-requires c κs = record { few = omega arith; space = omega (arith, leb-true (length (c .before .before .before .before .before .before .before .before .args .moves .now)) 576 (c .before .if2 .taken)); short = omega arith; clear = λ x l. getD-replicate {A = ℕ} 320 x 0 0 (omega arith) }
-
-slice-aggregate-accepts-few : tie.Need-slice-aggregate-accepts-few
-slice-aggregate-accepts-few c = search needs
 
 accepts-few-requires : tie.Need-accepts-few-requires
 accepts-few-requires c κs = (c .before .before .before .fill-within .ensures (c .before .if3 .taken), (letters _ _ _ _ (c .before .before .before .before .before .before .before .before .before .before .before .before .pre), c .before .before .before .before .before .before .if1 .taken))
@@ -48,14 +33,14 @@ pub accepts-spec : {M : Type 1} → statement M
 accepts-spec =
     tie.close
     (tie.spec
-    name-requires
-    cast-head
-    mul-head
+    (λ c κs. search needs)
+    (λ c. search needs)
+    (λ c. search needs)
     shared-slice-read-head
     cast-head-2
-    slice-aggregate-fill-within
+    (λ c. search needs)
     fill-within-requires
-    slice-aggregate-accepts-few
+    (λ c. search needs)
     accepts-few-requires
     returns
     accepts-many-requires

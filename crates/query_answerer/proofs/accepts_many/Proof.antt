@@ -8,35 +8,20 @@ use Rattle.query_simulation.specs.StatesLaws.{unused-zeros}
 use Rattle.query_answerer.proofs.accepts_many.Statement.{statement}
 use Rattle.query_answerer.proofs.accepts_many.Tie as tie
 
-slice-aggregate-fill-index : tie.Need-slice-aggregate-fill-index
-slice-aggregate-fill-index c = search needs
-
 fill-index-requires : tie.Need-fill-index-requires
 fill-index-requires c κs = (c .before .before .before .pre .0 .1, record { few = omega arith; space = omega (arith, c .before .before .before .pre .0 .0); short = omega arith; clear = λ x l. getD-replicate {A = ℕ} 9216 x 0 0 (omega arith) })
 
-slice-aggregate-run : tie.Need-slice-aggregate-run
-slice-aggregate-run c = search needs
-
-slice-aggregate-run-2 : tie.Need-slice-aggregate-run-2
-slice-aggregate-run-2 c = search needs
-
-slice-aggregate-run-3 : tie.Need-slice-aggregate-run-3
-slice-aggregate-run-3 c = search needs
-
 run-requires : tie.Need-run-requires
 run-requires c κs = (c .before .before .before .before .fill-index .ensures, (c .before .before .before .before .before .before .before .before .pre .1 .0, (omega (arith, c .before .before .before .before .before .before .before .before .pre .1 .1), (unused-zeros _ _ refl, unused-zeros _ _ refl))))
-
-returns : tie.Need-returns
-returns c = search needs
 
 pub accepts-many-spec : {M : Type 1} → statement M
 accepts-many-spec =
     tie.close
     (tie.spec
-    slice-aggregate-fill-index
+    (λ c. search needs)
     fill-index-requires
-    slice-aggregate-run
-    slice-aggregate-run-2
-    slice-aggregate-run-3
+    (λ c. search needs)
+    (λ c. search needs)
+    (λ c. search needs)
     run-requires
-    returns)
+    (λ c. search needs))

@@ -7,15 +7,6 @@ use borrow.Author.Needs.{needs}
 use Rattle.query_answerer.proofs.ask.Statement.{statement}
 use Rattle.query_answerer.proofs.ask.Tie as tie
 
-check-requires : tie.Need-check-requires
-check-requires c κs = search needs
-
-enum-known-question : tie.Need-enum-known-question
-enum-known-question c = search needs
-
-enum-told : tie.Need-enum-told
-enum-told c = search needs
-
 accepts-requires : tie.Need-accepts-requires
 accepts-requires c κs = sym (c .before .before .check .ensures) ∙ ap found (c .enum-told .given .1)
 
@@ -32,9 +23,9 @@ pub ask-spec : {M : Type 1} → statement M
 ask-spec =
     tie.close
     (tie.spec
-    check-requires
-    enum-known-question
-    enum-told
+    (λ c κs. search needs)
+    (λ c. search needs)
+    (λ c. search needs)
     accepts-requires
     returns
     returns-2

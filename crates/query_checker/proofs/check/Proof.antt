@@ -8,23 +8,11 @@ use Rattle.refusals.specs.Check.{check-passed, check-failed}
 use Rattle.query_checker.proofs.check.Statement.{statement}
 use Rattle.query_checker.proofs.check.Tie as tie
 
-tables-fit-requires : tie.Need-tables-fit-requires
-tables-fit-requires c κs = search needs
-
-enum-told : tie.Need-enum-told
-enum-told c = search needs
-
-enum-told-2 : tie.Need-enum-told-2
-enum-told-2 c = search needs
-
 returns : tie.Need-returns
 returns c = sym (query-tables _ _ _ _ (check-failed _ _ (c .before .before .tables-fit .ensures) (c .enum-told2 .given .1)))
 
 cast-check-for : tie.Need-cast-check-for
 cast-check-for c = omega (arith, tables _ _ (check-passed _ _ (c .before .before .tables-fit .ensures) (c .enum-told .given .1)) .few-heads)
-
-check-for-requires : tie.Need-check-for-requires
-check-for-requires c κs = search needs
 
 returns-2 : tie.Need-returns-2
 returns-2 c = (c .check-for .ensures) ∙ sym (query-question _ _ _ _ (check-passed _ _ (c .before .before .before .tables-fit .ensures) (c .before .enum-told .given .1)))
@@ -33,10 +21,10 @@ pub check-spec : {M : Type 1} → statement M
 check-spec =
     tie.close
     (tie.spec
-    tables-fit-requires
-    enum-told
-    enum-told-2
+    (λ c κs. search needs)
+    (λ c. search needs)
+    (λ c. search needs)
     returns
     cast-check-for
-    check-for-requires
+    (λ c κs. search needs)
     returns-2)

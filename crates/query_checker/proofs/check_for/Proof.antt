@@ -6,26 +6,8 @@ use Rattle.refusals.specs.Check.{check-passed, check-failed}
 use Rattle.query_checker.proofs.check_for.Statement.{statement}
 use Rattle.query_checker.proofs.check_for.Tie as tie
 
-chain-fits-requires : tie.Need-chain-fits-requires
-chain-fits-requires c κs = search needs
-
-enum-told : tie.Need-enum-told
-enum-told c = search needs
-
-enum-told-2 : tie.Need-enum-told-2
-enum-told-2 c = search needs
-
 returns : tie.Need-returns
 returns c = sym (question-chain (c .before .before .before .before .args .names) (c .before .before .before .before .args .role) (c .before .before .before .before .args .chain .now) (check-failed _ _ (c .before .before .chain-fits .ensures) (c .enum-told2 .given .1)))
-
-roles-fit-requires : tie.Need-roles-fit-requires
-roles-fit-requires c κs = search needs
-
-enum-told-3 : tie.Need-enum-told-3
-enum-told-3 c = search needs
-
-enum-told-4 : tie.Need-enum-told-4
-enum-told-4 c = search needs
 
 returns-2 : tie.Need-returns-2
 returns-2 c = sym (question-role _ _ _ (check-passed _ _ (c .before .before .before .before .before .chain-fits .ensures) (c .before .before .before .enum-told .given .1)) (check-failed _ _ (c .before .before .roles-fit .ensures) (c .enum-told4 .given .1)))
@@ -37,12 +19,12 @@ pub check-for-spec : {M : Type 1} → statement M
 check-for-spec =
     tie.close
     (tie.spec
-    chain-fits-requires
-    enum-told
-    enum-told-2
+    (λ c κs. search needs)
+    (λ c. search needs)
+    (λ c. search needs)
     returns
-    roles-fit-requires
-    enum-told-3
-    enum-told-4
+    (λ c κs. search needs)
+    (λ c. search needs)
+    (λ c. search needs)
     returns-2
     returns-3)

@@ -13,18 +13,6 @@ slice-aggregate-ask c = sym (length-take-le _ _ (c .before .before .before .befo
 slice-aggregate-ask-2 : tie.Need-slice-aggregate-ask-2
 slice-aggregate-ask-2 c = sym (length-take-le _ _ (c .before .before .before .before .before .pre .1))
 
-ask-requires : tie.Need-ask-requires
-ask-requires c κs = search needs
-
-enum-told : tie.Need-enum-told
-enum-told c = search needs
-
-enum-told-2 : tie.Need-enum-told-2
-enum-told-2 c = search needs
-
-enum-known-answer : tie.Need-enum-known-answer
-enum-known-answer c = search needs
-
 returns : tie.Need-returns
 returns c = replied-as _ _ _ _ _ _ (c .before .before .ask .ensures) (c .enum-told .given .1) Yes refl
 
@@ -40,10 +28,10 @@ put-spec =
     (tie.spec
     slice-aggregate-ask
     slice-aggregate-ask-2
-    ask-requires
-    enum-told
-    enum-told-2
-    enum-known-answer
+    (λ c κs. search needs)
+    (λ c. search needs)
+    (λ c. search needs)
+    (λ c. search needs)
     returns
     returns-2
     returns-3)

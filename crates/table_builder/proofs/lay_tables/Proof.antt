@@ -9,38 +9,11 @@ use Rattle.table_builder.specs.CountedLaws.{builds-refused, builds-laid,
 use Rattle.table_builder.proofs.lay_tables.Statement.{statement}
 use Rattle.table_builder.proofs.lay_tables.Tie as tie
 
-slice-aggregate-roots : tie.Need-slice-aggregate-roots
-slice-aggregate-roots c = search needs
-
-slice-aggregate-roots-2 : tie.Need-slice-aggregate-roots-2
-slice-aggregate-roots-2 c = search needs
-
-roots-requires : tie.Need-roots-requires
-roots-requires c κs = search needs
-
-few-states-requires : tie.Need-few-states-requires
-few-states-requires c κs = search needs
-
-enum-told : tie.Need-enum-told
-enum-told c = search needs
-
-enum-told-2 : tie.Need-enum-told-2
-enum-told-2 c = search needs
-
 returns : tie.Need-returns
 returns c =
     let p = c .before .before .before .before .before .before .before .before .before .before .before .before .pre in
     let w = c .before .before .before .before .before .roots .ensures (p .book .rules) (p .index) (p .book .names) (fuel-enough _ _ _ p) in
     builds-refused _ _ _ _ (built-refused _ _ _ _ _ (counted-states _ _ _ p _ _ _ _ _ w (check-failed _ _ (c .before .before .few-states .ensures) (c .enum-told2 .given .1))))
-
-few-transitions-requires : tie.Need-few-transitions-requires
-few-transitions-requires c κs = search needs
-
-enum-told-3 : tie.Need-enum-told-3
-enum-told-3 c = search needs
-
-enum-told-4 : tie.Need-enum-told-4
-enum-told-4 c = search needs
 
 returns-2 : tie.Need-returns-2
 returns-2 c =
@@ -54,27 +27,12 @@ long-enough-requires c κs =
     let few : c .before .before .before .before .before .before .before .before .roots .result .count ≤ 5120 = leb-true _ _ (check-passed _ _ (c .before .before .few-transitions .ensures) (c .enum-told3 .given .1)) in
     omega arith
 
-enum-told-5 : tie.Need-enum-told-5
-enum-told-5 c = search needs
-
-enum-told-6 : tie.Need-enum-told-6
-enum-told-6 c = search needs
-
 returns-3 : tie.Need-returns-3
 returns-3 c =
     let p = c .before .before .before .before .before .before .before .before .before .before .before .before .before .before .before .before .before .before .pre in
     let w = c .before .before .before .before .before .before .before .before .before .before .before .roots .ensures (p .book .rules) (p .index) (p .book .names) (fuel-enough _ _ _ p) in
     builds-refused _ _ _ _
     (counted-short _ _ _ p _ _ _ _ _ w (check-passed _ _ (c .before .before .before .before .before .before .before .before .few-states .ensures) (c .before .before .before .before .before .before .enum-told .given .1)) (check-passed _ _ (c .before .before .before .before .before .few-transitions .ensures) (c .before .before .before .enum-told3 .given .1)) _ _ (check-failed _ _ (c .before .before .long-enough .ensures) (c .enum-told6 .given .1)))
-
-roots-requires-2 : tie.Need-roots-requires-2
-roots-requires-2 c κs = search needs
-
-same-length : tie.Need-same-length
-same-length c = search needs
-
-same-length-2 : tie.Need-same-length-2
-same-length-2 c = search needs
 
 returns-4 : tie.Need-returns-4
 returns-4 c =
@@ -87,22 +45,22 @@ pub lay-tables-spec : {M : Type 1} → statement M
 lay-tables-spec =
     tie.close
     (tie.spec
-    slice-aggregate-roots
-    slice-aggregate-roots-2
-    roots-requires
-    few-states-requires
-    enum-told
-    enum-told-2
+    (λ c. search needs)
+    (λ c. search needs)
+    (λ c κs. search needs)
+    (λ c κs. search needs)
+    (λ c. search needs)
+    (λ c. search needs)
     returns
-    few-transitions-requires
-    enum-told-3
-    enum-told-4
+    (λ c κs. search needs)
+    (λ c. search needs)
+    (λ c. search needs)
     returns-2
     long-enough-requires
-    enum-told-5
-    enum-told-6
+    (λ c. search needs)
+    (λ c. search needs)
     returns-3
-    roots-requires-2
-    same-length
-    same-length-2
+    (λ c κs. search needs)
+    (λ c. search needs)
+    (λ c. search needs)
     returns-4)

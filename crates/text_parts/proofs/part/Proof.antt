@@ -6,23 +6,11 @@ use Rattle.text_parts.specs.TextLaws.{between-past, between-none, betwee
 use Rattle.text_parts.proofs.part.Statement.{statement}
 use Rattle.text_parts.proofs.part.Tie as tie
 
-slice-aggregate-result : tie.Need-slice-aggregate-result
-slice-aggregate-result c = search needs
-
 returns : tie.Need-returns
 returns c = sym (between-past (c .before .before .args .from) (c .before .before .args .end) (c .before .before .args .text .now) (c .before .if1 .taken))
 
-slice-aggregate-result-2 : tie.Need-slice-aggregate-result-2
-slice-aggregate-result-2 c = search needs
-
 returns-2 : tie.Need-returns-2
 returns-2 c = sym (between-none (c .before .before .before .args .from) (c .before .before .before .args .end) (c .before .before .before .args .text .now) (c .before .if2 .taken))
-
-part-result-start : tie.Need-part-result-start
-part-result-start c = search needs
-
-part-result-end : tie.Need-part-result-end
-part-result-end c = search needs
 
 returns-3 : tie.Need-returns-3
 returns-3 c = sym (between-some (c .before .before .before .args .from) (c .before .before .before .args .end) (c .before .before .before .args .text .now) (omega arith) (omega arith))
@@ -31,10 +19,10 @@ pub part-spec : {M : Type 1} → statement M
 part-spec =
     tie.close
     (tie.spec
-    slice-aggregate-result
+    (λ c. search needs)
     returns
-    slice-aggregate-result-2
+    (λ c. search needs)
     returns-2
-    part-result-start
-    part-result-end
+    (λ c. search needs)
+    (λ c. search needs)
     returns-3)

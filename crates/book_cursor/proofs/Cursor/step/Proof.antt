@@ -9,23 +9,11 @@ use Rattle.book_cursor.proofs.Cursor.step.Tie as tie
 returns : tie.Need-returns
 returns c = step-malformed _ _ (λ w. omega arith)
 
-sub-if2 : tie.Need-sub-if2
-sub-if2 c = search needs
-
 returns-2 : tie.Need-returns-2
 returns-2 c = step-malformed _ _ (λ w. omega arith)
 
-add-size : tie.Need-add-size
-add-size c = search needs
-
-shared-slice-read-size : tie.Need-shared-slice-read-size
-shared-slice-read-size c = search needs
-
 cast-size : tie.Need-cast-size
 cast-size c = omega (arith, c .shared-slice-known .given (c .before .before .before .args .self .at + 1))
-
-add-start : tie.Need-add-start
-add-start c = search needs
 
 returns-3 : tie.Need-returns-3
 returns-3 c = step-malformed _ _ (λ w. omega arith)
@@ -33,17 +21,8 @@ returns-3 c = step-malformed _ _ (λ w. omega arith)
 returns-4 : tie.Need-returns-4
 returns-4 c = step-malformed _ _ (λ w. omega arith)
 
-sub-if5 : tie.Need-sub-if5
-sub-if5 c = search needs
-
 returns-5 : tie.Need-returns-5
 returns-5 c = step-malformed _ _ (λ w. omega arith)
-
-shared-slice-read-t10 : tie.Need-shared-slice-read-t10
-shared-slice-read-t10 c = search needs
-
-add-t8 : tie.Need-add-t8
-add-t8 c = search needs
 
 returns-6 : tie.Need-returns-6
 returns-6 c = step-whole _ _ (record { short = omega arith; some = omega arith; few = omega arith; fits = omega arith })
@@ -53,16 +32,16 @@ step-spec =
     tie.close
     (tie.spec
     returns
-    sub-if2
+    (λ c. search needs)
     returns-2
-    add-size
-    shared-slice-read-size
+    (λ c. search needs)
+    (λ c. search needs)
     cast-size
-    add-start
+    (λ c. search needs)
     returns-3
     returns-4
-    sub-if5
+    (λ c. search needs)
     returns-5
-    shared-slice-read-t10
-    add-t8
+    (λ c. search needs)
+    (λ c. search needs)
     returns-6)

@@ -23,21 +23,9 @@ Inv-loop book header rules keys₀ index₀ cursor₀ later₀ keys index cursor
 abbrev μ-loop : tie.MeasureT-loop
 μ-loop book header rules keys₀ index₀ cursor₀ later₀ keys index cursor later = rules - later
 
-first-requires : tie.Need-first-requires Inv-loop μ-loop
-first-requires c κs = search needs
-
 loop-holds : tie.Need-loop-holds Inv-loop μ-loop
 unfolding rule-place
 loop-holds c = (omega arith, (c .first .ensures, searched-start _ _))
-
-step-requires : tie.Need-step-requires Inv-loop μ-loop
-step-requires c κs = search needs
-
-enum-known-entry : tie.Need-enum-known-entry Inv-loop μ-loop
-enum-known-entry c = search needs
-
-enum-told : tie.Need-enum-told Inv-loop μ-loop
-enum-told c = search needs
 
 returns : tie.Need-returns Inv-loop μ-loop
 returns c = absurd (some-rule _ _ _ _ (c .before .before .before .before .loop .inv .1 .0) (headed _ _ (c .before .before .before .before .before .before .before .pre) .whole (c .before .before .before .before .loop .later) (c .before .before .before .loop-test .taken)) (c .before .before .step .ensures) (c .enum-told .given .1))
@@ -47,20 +35,8 @@ key-requires c κs =
     let a = at-rule _ _ _ _ _ _ (c .before .before .before .before .before .loop .inv .1 .0) (c .before .before .before .step .ensures) (c .before .entry .given .1) in
     (a .fits, rw (a .rule) (bounded _ _ (c .before .before .before .before .before .before .before .before .pre) .short (c .before .before .before .before .before .loop .later) (c .before .before .before .before .loop-test .taken)))
 
-slice-aggregate-fresh : tie.Need-slice-aggregate-fresh Inv-loop μ-loop
-slice-aggregate-fresh c = search needs
-
-slice-aggregate-fresh-2 : tie.Need-slice-aggregate-fresh-2 Inv-loop μ-loop
-slice-aggregate-fresh-2 c = search needs
-
 fresh-requires : tie.Need-fresh-requires Inv-loop μ-loop
 fresh-requires c κs = c .before .before .before .before .before .before .before .before .loop .inv .1 .1 .entered
-
-enum-told-2 : tie.Need-enum-told-2 Inv-loop μ-loop
-enum-told-2 c = search needs
-
-enum-told-3 : tie.Need-enum-told-3 Inv-loop μ-loop
-enum-told-3 c = search needs
 
 returns-2 : tie.Need-returns-2 Inv-loop μ-loop
 returns-2 c =
@@ -70,20 +46,8 @@ returns-2 c =
     (headed _ _ (c .before .before .before .before .before .before .before .before .before .before .before .before .before .before .pre) .reads
     ∙ searched-found _ _ (bounded _ _ (c .before .before .before .before .before .before .before .before .before .before .before .before .before .before .pre)) _ _ _ (c .before .before .before .before .before .before .before .before .before .before .before .loop .inv .1 .1) (c .before .before .before .before .before .before .before .before .before .before .loop-test .taken) _ (a .rule) _ (c .before .before .before .before .before .key .ensures) (not-false _ (check-failed _ _ (c .before .before .fresh .ensures) (c .enum-told3 .given .1)))))
 
-slice-aggregate-enter : tie.Need-slice-aggregate-enter Inv-loop μ-loop
-slice-aggregate-enter c = search needs
-
-slice-aggregate-enter-2 : tie.Need-slice-aggregate-enter-2 Inv-loop μ-loop
-slice-aggregate-enter-2 c = search needs
-
 enter-requires : tie.Need-enter-requires Inv-loop μ-loop
 enter-requires c κs = (c .before .before .before .before .before .before .before .before .before .before .before .before .before .loop .inv .1 .1 .entered, omega (arith, bounded (c .before .before .before .before .before .before .before .before .before .before .before .before .before .before .before .before .args .book .now) (c .before .before .before .before .before .before .before .before .before .before .before .before .before .before .before .before .args .header) (c .before .before .before .before .before .before .before .before .before .before .before .before .before .before .before .before .pre) .few))
-
-add-later : tie.Need-add-later Inv-loop μ-loop
-add-later c = search needs
-
-loop-less : tie.Need-loop-less Inv-loop μ-loop
-loop-less c = search needs
 
 loop-again : tie.Need-loop-again Inv-loop μ-loop
 loop-again c =
@@ -109,23 +73,23 @@ distinct-spec =
     (tie.spec
     Inv-loop
     μ-loop
-    first-requires
+    (λ c κs. search needs)
     loop-holds
-    step-requires
-    enum-known-entry
-    enum-told
+    (λ c κs. search needs)
+    (λ c. search needs)
+    (λ c. search needs)
     returns
     key-requires
-    slice-aggregate-fresh
-    slice-aggregate-fresh-2
+    (λ c. search needs)
+    (λ c. search needs)
     fresh-requires
-    enum-told-2
-    enum-told-3
+    (λ c. search needs)
+    (λ c. search needs)
     returns-2
-    slice-aggregate-enter
-    slice-aggregate-enter-2
+    (λ c. search needs)
+    (λ c. search needs)
     enter-requires
-    add-later
-    loop-less
+    (λ c. search needs)
+    (λ c. search needs)
     loop-again
     returns-3)

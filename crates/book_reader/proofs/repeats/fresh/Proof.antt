@@ -15,20 +15,11 @@ Inv-loop keys index key count at₀ at = Walked keys count key at
 abbrev μ-loop : tie.MeasureT-loop
 μ-loop keys index key count at₀ at = at
 
-mul-at : tie.Need-mul-at Inv-loop μ-loop
-mul-at c = search needs
-
-shared-slice-read-at : tie.Need-shared-slice-read-at Inv-loop μ-loop
-shared-slice-read-at c = search needs
-
 cast-at : tie.Need-cast-at Inv-loop μ-loop
 cast-at c = omega (arith, c .shared-slice-known .given (c .before .args .key % 251))
 
 loop-holds : tie.Need-loop-holds Inv-loop μ-loop
 loop-holds c = walked-start _ _ _ _ (c .before .pre)
-
-sub-k : tie.Need-sub-k Inv-loop μ-loop
-sub-k c = search needs
 
 mul-if1 : tie.Need-mul-if1 Inv-loop μ-loop
 mul-if1 c = omega (arith, c .before .loop .inv .low, c .before .before .before .pre .linked .space, c .before .before .before .pre .entries)
@@ -66,11 +57,11 @@ fresh-spec =
     (tie.spec
     Inv-loop
     μ-loop
-    mul-at
-    shared-slice-read-at
+    (λ c. search needs)
+    (λ c. search needs)
     cast-at
     loop-holds
-    sub-k
+    (λ c. search needs)
     mul-if1
     shared-slice-read-if1
     returns

@@ -25,23 +25,8 @@ loop-holds c = (omega arith, rw inv-chain-nil refl)
 mul-code : tie.Need-mul-code Inv-loop μ-loop
 mul-code c = omega (arith, inverse-front (c .before .before .before .args .chain .now) (c .before .before .before .pre .0) (c .before .before .before .pre .1) (c .before .loop .i) (c .loop-test .taken))
 
-shared-slice-read-inverse : tie.Need-shared-slice-read-inverse Inv-loop μ-loop
-shared-slice-read-inverse c = search needs
-
-inverse-requires : tie.Need-inverse-requires Inv-loop μ-loop
-inverse-requires c κs = search needs
-
-cast-code : tie.Need-cast-code Inv-loop μ-loop
-cast-code c = search needs
-
 add-code : tie.Need-add-code Inv-loop μ-loop
 add-code c = omega (arith, inverse-front (c .before .before .before .before .before .args .chain .now) (c .before .before .before .before .before .pre .0) (c .before .before .before .before .before .pre .1) (c .before .before .before .loop .i) (c .before .before .loop-test .taken), c .inverse .ok)
-
-add-i : tie.Need-add-i Inv-loop μ-loop
-add-i c = search needs
-
-loop-less : tie.Need-loop-less Inv-loop μ-loop
-loop-less c = search needs
 
 loop-again : tie.Need-loop-again Inv-loop μ-loop
 loop-again c = (omega arith, rw (c .before .before .before .loop .inv .1, c .inverse .ensures) (sym (inverse-next _ (c .before .before .before .before .before .pre .0) (c .before .before .before .before .before .pre .1) (c .before .before .before .loop .i) (c .before .before .loop-test .taken))))
@@ -57,11 +42,11 @@ inverse-code-spec =
     μ-loop
     loop-holds
     mul-code
-    shared-slice-read-inverse
-    inverse-requires
-    cast-code
+    (λ c. search needs)
+    (λ c κs. search needs)
+    (λ c. search needs)
     add-code
-    add-i
-    loop-less
+    (λ c. search needs)
+    (λ c. search needs)
     loop-again
     returns)

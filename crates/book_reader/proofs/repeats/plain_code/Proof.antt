@@ -20,23 +20,14 @@ loop-holds : tie.Need-loop-holds Inv-loop μ-loop
 unfolding code-of
 loop-holds c = (omega arith, sym (ap code-of (drop-length (c .args .chain .now))))
 
-sub-i : tie.Need-sub-i Inv-loop μ-loop
-sub-i c = search needs
-
 mul-code : tie.Need-mul-code Inv-loop μ-loop
 mul-code c = omega (arith, code-rest (c .before .before .args .chain .now) (c .before .before .pre .0) (c .before .before .pre .1) (c .before .loop .i) (c .loop-test .taken) (c .before .loop .inv .0))
-
-shared-slice-read-code : tie.Need-shared-slice-read-code Inv-loop μ-loop
-shared-slice-read-code c = search needs
 
 cast-code : tie.Need-cast-code Inv-loop μ-loop
 cast-code c = omega (arith, c .shared-slice-known .given (c .before .before .loop .i - 1))
 
 add-code : tie.Need-add-code Inv-loop μ-loop
 add-code c = omega (arith, c .shared-slice-known .given (c .before .before .loop .i - 1), code-rest (c .before .before .before .args .chain .now) (c .before .before .before .pre .0) (c .before .before .before .pre .1) (c .before .before .loop .i) (c .before .loop-test .taken) (c .before .before .loop .inv .0))
-
-loop-less : tie.Need-loop-less Inv-loop μ-loop
-loop-less c = search needs
 
 loop-again : tie.Need-loop-again Inv-loop μ-loop
 loop-again c = (omega arith, rw (c .before .before .loop .inv .1) (sym (code-next _ (c .before .before .before .pre .0) (c .before .before .before .pre .1) (c .before .before .loop .i) (c .before .loop-test .taken) (c .before .before .loop .inv .0))))
@@ -51,11 +42,11 @@ plain-code-spec =
     Inv-loop
     μ-loop
     loop-holds
-    sub-i
+    (λ c. search needs)
     mul-code
-    shared-slice-read-code
+    (λ c. search needs)
     cast-code
     add-code
-    loop-less
+    (λ c. search needs)
     loop-again
     returns)

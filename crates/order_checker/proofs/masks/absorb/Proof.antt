@@ -19,33 +19,6 @@ abbrev μ-loop : tie.MeasureT-loop
 loop-holds : tie.Need-loop-holds Inv-loop μ-loop
 loop-holds c = (omega arith, absorbing-start _ _ _)
 
-mul-mask : tie.Need-mul-mask Inv-loop μ-loop
-mul-mask c = search needs
-
-slice-read-mask : tie.Need-slice-read-mask Inv-loop μ-loop
-slice-read-mask c = search needs
-
-mul-masks : tie.Need-mul-masks Inv-loop μ-loop
-mul-masks c = search needs
-
-slice-write-masks : tie.Need-slice-write-masks Inv-loop μ-loop
-slice-write-masks c = search needs
-
-has-requires : tie.Need-has-requires Inv-loop μ-loop
-has-requires c κs = search needs
-
-mul-masks-2 : tie.Need-mul-masks-2 Inv-loop μ-loop
-mul-masks-2 c = search needs
-
-slice-write-masks-2 : tie.Need-slice-write-masks-2 Inv-loop μ-loop
-slice-write-masks-2 c = search needs
-
-add-x : tie.Need-add-x Inv-loop μ-loop
-add-x c = search needs
-
-loop-less : tie.Need-loop-less Inv-loop μ-loop
-loop-less c = search needs
-
 loop-again : tie.Need-loop-again Inv-loop μ-loop
 loop-again c =
     let fits : c .before .before .before .loop .x < length (c .before .before .before .before .before .args .masks .now) = omega (arith, (c .before .before .before .before .before .pre .1)) in (
@@ -58,9 +31,6 @@ loop-again c =
           (c .if1 .came),
     )
 
-same-length : tie.Need-same-length Inv-loop μ-loop
-same-length c = search needs
-
 returns : tie.Need-returns Inv-loop μ-loop
 returns c = absorbing-end _ _ _ _ _ (omega arith) (omega arith) (absorbing-past _ _ _ _ _ (omega (arith, c .before .loop .inv .1 .size)) (omega arith) (c .before .before .before .pre .0) (c .before .loop .inv .1))
 
@@ -71,15 +41,15 @@ absorb-spec =
     Inv-loop
     μ-loop
     loop-holds
-    mul-mask
-    slice-read-mask
-    mul-masks
-    slice-write-masks
-    has-requires
-    mul-masks-2
-    slice-write-masks-2
-    add-x
-    loop-less
+    (λ c. search needs)
+    (λ c. search needs)
+    (λ c. search needs)
+    (λ c. search needs)
+    (λ c κs. search needs)
+    (λ c. search needs)
+    (λ c. search needs)
+    (λ c. search needs)
+    (λ c. search needs)
     loop-again
-    same-length
+    (λ c. search needs)
     returns)

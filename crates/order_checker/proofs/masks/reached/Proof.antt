@@ -17,12 +17,6 @@ abbrev μ-loop : tie.MeasureT-loop
 loop-holds : tie.Need-loop-holds Inv-loop μ-loop
 loop-holds c = (omega arith, reaching-start _ _)
 
-shared-slice-read-name : tie.Need-shared-slice-read-name Inv-loop μ-loop
-shared-slice-read-name c = search needs
-
-name-requires : tie.Need-name-requires Inv-loop μ-loop
-name-requires c κs = search needs
-
 -- the name of the role read has a mask
 name-masked : (c : tie.After-name Inv-loop μ-loop) → c .name .result < length (c .before .before .before .before .before .before .args .masks .now)
 unfolding name
@@ -43,12 +37,6 @@ mul-lower c = omega (arith, name-small (c .before))
 shared-slice-read-lower : tie.Need-shared-slice-read-lower Inv-loop μ-loop
 shared-slice-read-lower c = name-masked (c .before .before)
 
-add-i : tie.Need-add-i Inv-loop μ-loop
-add-i c = search needs
-
-loop-less : tie.Need-loop-less Inv-loop μ-loop
-loop-less c = search needs
-
 loop-again : tie.Need-loop-again Inv-loop μ-loop
 loop-again c = (omega arith, reaching-next _ _ _ _ _ _ (c .before .before .before .before .loop-test .taken) (c .before .before .name .ensures) (name-small (c .before .before)) (c .before .single .ensures) (c .before .before .before .before .before .loop .inv .1))
 
@@ -62,13 +50,13 @@ reached-spec =
     Inv-loop
     μ-loop
     loop-holds
-    shared-slice-read-name
-    name-requires
+    (λ c. search needs)
+    (λ c κs. search needs)
     cast-inner
     single-requires
     mul-lower
     shared-slice-read-lower
-    add-i
-    loop-less
+    (λ c. search needs)
+    (λ c. search needs)
     loop-again
     returns)

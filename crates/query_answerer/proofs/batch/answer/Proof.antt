@@ -13,41 +13,11 @@ use Rattle.query_answerer.specs.BatchLaws.{refused-told}
 use Rattle.query_answerer.proofs.batch.answer.Statement.{statement}
 use Rattle.query_answerer.proofs.batch.answer.Tie as tie
 
-enum-told : tie.Need-enum-told
-enum-told c = search needs
-
-enum-told-2 : tie.Need-enum-told-2
-enum-told-2 c = search needs
-
-refusal-byte-requires : tie.Need-refusal-byte-requires
-refusal-byte-requires c κs = search needs
-
 returns : tie.Need-returns
 returns c = (refused-told (c .before .before .before .before .before .before .before .before .before .args .heads .now) (c .before .before .before .before .before .before .before .before .before .args .moves .now) (c .before .before .before .before .before .before .before .before .before .args .role) (c .before .before .before .before .before .before .before .before .before .args .chain .now) Tables (query-tables (c .before .before .before .before .before .before .before .before .before .args .heads .now) (c .before .before .before .before .before .before .before .before .before .args .moves .now) (c .before .before .before .before .before .before .before .before .before .args .role) (c .before .before .before .before .before .before .before .before .before .args .chain .now) (check-failed _ _ (c .before .before .before .before .before .before .before .before .before .pre .0 .judged) (c .before .enum-told2 .given .1))) _ (c .refusal-byte .ensures), (unused-later _ _ _ _ (omega arith) (c .before .before .before .before .before .before .before .before .before .pre .1 .1 .0), unused-later _ _ _ _ (omega arith) (c .before .before .before .before .before .before .before .before .before .pre .1 .1 .1)))
 
 cast-check-for : tie.Need-cast-check-for
 cast-check-for c = omega (arith, tables _ _ (check-passed _ _ (c .before .before .before .before .before .before .before .before .pre .0 .judged) (c .enum-told .given .1)) .few-heads)
-
-check-for-requires : tie.Need-check-for-requires
-check-for-requires c κs = search needs
-
-enum-known-question : tie.Need-enum-known-question
-enum-known-question c = search needs
-
-refusal-byte-requires-2 : tie.Need-refusal-byte-requires-2
-refusal-byte-requires-2 c κs = search needs
-
-enum-told-3 : tie.Need-enum-told-3
-enum-told-3 c = search needs
-
-name-requires : tie.Need-name-requires
-name-requires c κs = search needs
-
-cast-head : tie.Need-cast-head
-cast-head c = search needs
-
-mul-head : tie.Need-mul-head
-mul-head c = search needs
 
 shared-slice-read-head : tie.Need-shared-slice-read-head
 shared-slice-read-head c = rw (c .before .name .ensures) (named-role _ _ _ _ (query-question (c .before .before .before .before .before .before .before .before .before .before .before .before .before .args .heads .now) (c .before .before .before .before .before .before .before .before .before .before .before .before .before .args .moves .now) (c .before .before .before .before .before .before .before .before .before .before .before .before .before .args .role) (c .before .before .before .before .before .before .before .before .before .before .before .before .before .args .chain .now) (check-passed _ _ (c .before .before .before .before .before .before .before .before .before .before .before .before .before .pre .0 .judged) (c .before .before .before .before .before .enum-told .given .1)) ∙ sym (c .before .before .before .before .check-for .ensures) ∙ ap found (c .before .before .enum-told3 .given .1)))
@@ -58,23 +28,11 @@ cast-head-2 c = omega (arith, c .shared-slice-known5 .given (c .before .name .re
 run-requires : tie.Need-run-requires
 run-requires c κs = (c .before .before .before .before .before .before .before .before .before .before .before .before .before .before .before .pre .0 .indexed (c .before .before .before .before .before .before .before .enum-told .given .1), (letters _ _ _ _ (query-question (c .before .before .before .before .before .before .before .before .before .before .before .before .before .before .before .args .heads .now) (c .before .before .before .before .before .before .before .before .before .before .before .before .before .before .before .args .moves .now) (c .before .before .before .before .before .before .before .before .before .before .before .before .before .before .before .args .role) (c .before .before .before .before .before .before .before .before .before .before .before .before .before .before .before .args .chain .now) (check-passed _ _ (c .before .before .before .before .before .before .before .before .before .before .before .before .before .before .before .pre .0 .judged) (c .before .before .before .before .before .before .before .enum-told .given .1)) ∙ sym (c .before .before .before .before .before .before .check-for .ensures) ∙ ap found (c .before .before .before .before .enum-told3 .given .1)), ((omega (arith, fitting _ _ _ _ (query-question (c .before .before .before .before .before .before .before .before .before .before .before .before .before .before .before .args .heads .now) (c .before .before .before .before .before .before .before .before .before .before .before .before .before .before .before .args .moves .now) (c .before .before .before .before .before .before .before .before .before .before .before .before .before .before .before .args .role) (c .before .before .before .before .before .before .before .before .before .before .before .before .before .before .before .args .chain .now) (check-passed _ _ (c .before .before .before .before .before .before .before .before .before .before .before .before .before .before .before .pre .0 .judged) (c .before .before .before .before .before .before .before .enum-told .given .1)) ∙ sym (c .before .before .before .before .before .before .check-for .ensures) ∙ ap found (c .before .before .before .before .enum-told3 .given .1)) .small-heads (c .before .before .before .name .result) (rw (c .before .before .before .name .ensures) (named-role _ _ _ _ (query-question (c .before .before .before .before .before .before .before .before .before .before .before .before .before .before .before .args .heads .now) (c .before .before .before .before .before .before .before .before .before .before .before .before .before .before .before .args .moves .now) (c .before .before .before .before .before .before .before .before .before .before .before .before .before .before .before .args .role) (c .before .before .before .before .before .before .before .before .before .before .before .before .before .before .before .args .chain .now) (check-passed _ _ (c .before .before .before .before .before .before .before .before .before .before .before .before .before .before .before .pre .0 .judged) (c .before .before .before .before .before .before .before .enum-told .given .1)) ∙ sym (c .before .before .before .before .before .before .check-for .ensures) ∙ ap found (c .before .before .before .before .enum-told3 .given .1))))), c .before .before .before .before .before .before .before .before .before .before .before .before .before .before .before .pre .1 .0), (c .before .before .before .before .before .before .before .before .before .before .before .before .before .before .before .pre .1 .1 .0, c .before .before .before .before .before .before .before .before .before .before .before .before .before .before .before .pre .1 .1 .1))))
 
-same-length : tie.Need-same-length
-same-length c = search needs
-
-same-length-2 : tie.Need-same-length-2
-same-length-2 c = search needs
-
 returns-2 : tie.Need-returns-2
 returns-2 c = (answered-yes (query-question (c .before .before .before .before .before .before .before .before .before .before .before .before .before .before .before .before .before .before .before .before .before .args .heads .now) (c .before .before .before .before .before .before .before .before .before .before .before .before .before .before .before .before .before .before .before .before .before .args .moves .now) (c .before .before .before .before .before .before .before .before .before .before .before .before .before .before .before .before .before .before .before .before .before .args .role) (c .before .before .before .before .before .before .before .before .before .before .before .before .before .before .before .before .before .before .before .before .before .args .chain .now) (check-passed _ _ (c .before .before .before .before .before .before .before .before .before .before .before .before .before .before .before .before .before .before .before .before .before .pre .0 .judged) (c .before .before .before .before .before .before .before .before .before .before .before .before .before .enum-told .given .1)) ∙ sym (c .before .before .before .before .before .before .before .before .before .before .before .before .check-for .ensures) ∙ ap found (c .before .before .before .before .before .before .before .before .before .before .enum-told3 .given .1)) ((rw (c .before .before .before .before .before .before .before .before .before .name .ensures) at (c .before .before .before .before .before .run .ensures .0)) .holds (c .if1 .taken)), c .before .before .before .before .before .run .ensures .1)
 
 returns-3 : tie.Need-returns-3
 returns-3 c = (refused-told (c .before .before .before .before .before .before .before .before .before .before .before .before .before .args .heads .now) (c .before .before .before .before .before .before .before .before .before .before .before .before .before .args .moves .now) (c .before .before .before .before .before .before .before .before .before .before .before .before .before .args .role) (c .before .before .before .before .before .before .before .before .before .before .before .before .before .args .chain .now) (c .before .before .question .given .0 .0) (query-question (c .before .before .before .before .before .before .before .before .before .before .before .before .before .args .heads .now) (c .before .before .before .before .before .before .before .before .before .before .before .before .before .args .moves .now) (c .before .before .before .before .before .before .before .before .before .before .before .before .before .args .role) (c .before .before .before .before .before .before .before .before .before .before .before .before .before .args .chain .now) (check-passed _ _ (c .before .before .before .before .before .before .before .before .before .before .before .before .before .pre .0 .judged) (c .before .before .before .before .before .enum-told .given .1)) ∙ sym (c .before .before .before .before .check-for .ensures) ∙ ap found (c .before .before .question .given .1)) _ (c .refusal-byte2 .ensures), (unused-later _ _ _ _ (omega arith) (c .before .before .before .before .before .before .before .before .before .before .before .before .before .pre .1 .1 .0), unused-later _ _ _ _ (omega arith) (c .before .before .before .before .before .before .before .before .before .before .before .before .before .pre .1 .1 .1)))
-
-same-length-3 : tie.Need-same-length-3
-same-length-3 c = search needs
-
-same-length-4 : tie.Need-same-length-4
-same-length-4 c = search needs
 
 returns-4 : tie.Need-returns-4
 returns-4 c = (answered-no (query-question (c .before .before .before .before .before .before .before .before .before .before .before .before .before .before .before .before .before .before .before .before .before .args .heads .now) (c .before .before .before .before .before .before .before .before .before .before .before .before .before .before .before .before .before .before .before .before .before .args .moves .now) (c .before .before .before .before .before .before .before .before .before .before .before .before .before .before .before .before .before .before .before .before .before .args .role) (c .before .before .before .before .before .before .before .before .before .before .before .before .before .before .before .before .before .before .before .before .before .args .chain .now) (check-passed _ _ (c .before .before .before .before .before .before .before .before .before .before .before .before .before .before .before .before .before .before .before .before .before .pre .0 .judged) (c .before .before .before .before .before .before .before .before .before .before .before .before .before .enum-told .given .1)) ∙ sym (c .before .before .before .before .before .before .before .before .before .before .before .before .check-for .ensures) ∙ ap found (c .before .before .before .before .before .before .before .before .before .before .enum-told3 .given .1)) ((rw (c .before .before .before .before .before .before .before .before .before .name .ensures) at (c .before .before .before .before .before .run .ensures .0)) .fails (c .if1 .left)), c .before .before .before .before .before .run .ensures .1)
@@ -83,25 +41,25 @@ pub answer-spec : {M : Type 1} → statement M
 answer-spec =
     tie.close
     (tie.spec
-    enum-told
-    enum-told-2
-    refusal-byte-requires
+    (λ c. search needs)
+    (λ c. search needs)
+    (λ c κs. search needs)
     returns
     cast-check-for
-    check-for-requires
-    enum-known-question
-    refusal-byte-requires-2
-    enum-told-3
-    name-requires
-    cast-head
-    mul-head
+    (λ c κs. search needs)
+    (λ c. search needs)
+    (λ c κs. search needs)
+    (λ c. search needs)
+    (λ c κs. search needs)
+    (λ c. search needs)
+    (λ c. search needs)
     shared-slice-read-head
     cast-head-2
     run-requires
-    same-length
-    same-length-2
+    (λ c. search needs)
+    (λ c. search needs)
     returns-2
     returns-3
-    same-length-3
-    same-length-4
+    (λ c. search needs)
+    (λ c. search needs)
     returns-4)

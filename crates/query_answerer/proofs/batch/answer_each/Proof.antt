@@ -46,9 +46,6 @@ shared-slice-read-answer c = omega (arith, whole-fits _ _ _ (c .before .before .
 answer-requires : tie.Need-answer-requires Inv-loop μ-loop
 answer-requires c κs = (c .before .before .before .before .before .before .before .before .before .before .before .before .before .before .before .before .before .before .before .before .before .before .pre .0, (c .before .before .before .before .before .before .before .renew .ensures .0, c .before .before .before .before .before .before .before .renew .ensures .1))
 
-slice-write-answers : tie.Need-slice-write-answers Inv-loop μ-loop
-slice-write-answers c = search needs
-
 cast-stamp : tie.Need-cast-stamp Inv-loop μ-loop
 cast-stamp c = omega (arith, c .before .before .before .before .before .before .before .before .before .before .before .before .renew .ensures .0)
 
@@ -110,7 +107,7 @@ answer-each-spec =
     renew-requires
     shared-slice-read-answer
     answer-requires
-    slice-write-answers
+    (λ c. search needs)
     cast-stamp
     add-stamp
     add-read

@@ -13,29 +13,11 @@ use borrow.Author.Needs.{needs}
 use Rattle.query_answerer.proofs.batch.ask_all.Statement.{statement}
 use Rattle.query_answerer.proofs.batch.ask_all.Tie as tie
 
-tables-fit-requires : tie.Need-tables-fit-requires
-tables-fit-requires c κs = search needs
-
-enum-told : tie.Need-enum-told
-enum-told c = search needs
-
-slice-aggregate-fill-index : tie.Need-slice-aggregate-fill-index
-slice-aggregate-fill-index c = search needs
-
 fill-index-requires : tie.Need-fill-index-requires
 fill-index-requires c κs = let fit = tables _ _ (check-passed _ _ (c .before .before .before .tables-fit .ensures) (c .before .enum-told .given .1)) in (fit .fit, record { few = omega arith; space = omega (arith, fit .few); short = omega arith; clear = λ x l. getD-replicate {A = ℕ} 9216 x 0 0 (omega arith) })
 
-enum-told-2 : tie.Need-enum-told-2
-enum-told-2 c = search needs
-
 slice-aggregate-answer-each : tie.Need-slice-aggregate-answer-each
 slice-aggregate-answer-each c = ⊎-elim (λ w. rw (w .5) (search needs)) (λ w. rw (w .2) refl) (c .before .match .came)
-
-slice-aggregate-answer-each-2 : tie.Need-slice-aggregate-answer-each-2
-slice-aggregate-answer-each-2 c = search needs
-
-slice-aggregate-answer-each-3 : tie.Need-slice-aggregate-answer-each-3
-slice-aggregate-answer-each-3 c = search needs
 
 answer-each-requires : tie.Need-answer-each-requires
 answer-each-requires c κs = (
@@ -49,24 +31,18 @@ answer-each-requires c κs = (
   (unused-zeros _ _ refl, unused-zeros _ _ refl),
 )
 
-same-length : tie.Need-same-length
-same-length c = search needs
-
-returns : tie.Need-returns
-returns c = search needs
-
 pub ask-all-spec : {M : Type 1} → statement M
 ask-all-spec =
     tie.close
     (tie.spec
-    tables-fit-requires
-    enum-told
-    slice-aggregate-fill-index
+    (λ c κs. search needs)
+    (λ c. search needs)
+    (λ c. search needs)
     fill-index-requires
-    enum-told-2
+    (λ c. search needs)
     slice-aggregate-answer-each
-    slice-aggregate-answer-each-2
-    slice-aggregate-answer-each-3
+    (λ c. search needs)
+    (λ c. search needs)
     answer-each-requires
-    same-length
-    returns)
+    (λ c. search needs)
+    (λ c. search needs))

@@ -21,12 +21,6 @@ loop-holds c = (omega arith, (refl, indexed-none _ _ _ (c .before .before .pre .
 enter-requires : tie.Need-enter-requires Inv-loop μ-loop
 enter-requires c κs = (c .before .before .loop .inv .1 .1, (c .before .loop-test .taken, c .before .before .before .before .before .pre .0 .from-fits (c .before .before .loop .k) (c .before .loop-test .taken), c .before .before .before .before .before .pre .0 .to-fits (c .before .before .loop .k) (c .before .loop-test .taken)))
 
-add-k : tie.Need-add-k Inv-loop μ-loop
-add-k c = search needs
-
-loop-less : tie.Need-loop-less Inv-loop μ-loop
-loop-less c = search needs
-
 loop-again : tie.Need-loop-again Inv-loop μ-loop
 loop-again c = (omega (arith, c .before .before .before .before .loop-test .taken), (c .before .index .given ∙ c .before .before .before .before .before .loop .inv .1 .0, c .before .before .enter .ensures))
 
@@ -44,8 +38,8 @@ fill-index-spec =
     μ-loop
     loop-holds
     enter-requires
-    add-k
-    loop-less
+    (λ c. search needs)
+    (λ c. search needs)
     loop-again
     same-length
     returns)

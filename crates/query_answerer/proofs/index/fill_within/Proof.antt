@@ -19,15 +19,6 @@ abbrev μ-loop : tie.MeasureT-loop
 loop-holds : tie.Need-loop-holds Inv-loop μ-loop
 loop-holds c = (omega arith, (refl, indexed-none _ _ _ (c .before .before .pre)))
 
-mul-if1 : tie.Need-mul-if1 Inv-loop μ-loop
-mul-if1 c = search needs
-
-mul-if1-2 : tie.Need-mul-if1-2 Inv-loop μ-loop
-mul-if1-2 c = search needs
-
-shared-slice-read-if1 : tie.Need-shared-slice-read-if1 Inv-loop μ-loop
-shared-slice-read-if1 c = search needs
-
 cast-if1 : tie.Need-cast-if1 Inv-loop μ-loop
 cast-if1 c = omega (arith, (c .shared-slice-known2 .given) (3 * c .before .before .loop .k))
 
@@ -36,18 +27,6 @@ same-length c = c .before .before .before .loop .inv .1 .0
 
 returns : tie.Need-returns Inv-loop μ-loop
 returns c = λ h. absurd (false≢true h)
-
-mul-if2 : tie.Need-mul-if2 Inv-loop μ-loop
-mul-if2 c = search needs
-
-add-if2 : tie.Need-add-if2 Inv-loop μ-loop
-add-if2 c = search needs
-
-mul-if2-2 : tie.Need-mul-if2-2 Inv-loop μ-loop
-mul-if2-2 c = search needs
-
-shared-slice-read-if2 : tie.Need-shared-slice-read-if2 Inv-loop μ-loop
-shared-slice-read-if2 c = search needs
 
 cast-if2 : tie.Need-cast-if2 Inv-loop μ-loop
 cast-if2 c = omega (arith, (c .shared-slice-known3 .given) (3 * c .before .before .before .before .loop .k + 2))
@@ -60,12 +39,6 @@ returns-2 c = λ h. absurd (false≢true h)
 
 enter-requires : tie.Need-enter-requires Inv-loop μ-loop
 enter-requires c κs = (c .before .before .before .before .before .before .loop .inv .1 .1, (c .before .before .before .before .before .loop-test .taken, omega (arith, c .before .before .before .if1 .left), omega (arith, c .before .if2 .left)))
-
-add-k : tie.Need-add-k Inv-loop μ-loop
-add-k c = search needs
-
-loop-less : tie.Need-loop-less Inv-loop μ-loop
-loop-less c = search needs
 
 loop-again : tie.Need-loop-again Inv-loop μ-loop
 loop-again c = (omega (arith, c .before .before .before .before .before .before .before .before .loop-test .taken), (c .before .index .given ∙ c .before .before .before .before .before .before .before .before .before .loop .inv .1 .0, c .before .before .enter .ensures))
@@ -83,22 +56,22 @@ fill-within-spec =
     Inv-loop
     μ-loop
     loop-holds
-    mul-if1
-    mul-if1-2
-    shared-slice-read-if1
+    (λ c. search needs)
+    (λ c. search needs)
+    (λ c. search needs)
     cast-if1
     same-length
     returns
-    mul-if2
-    add-if2
-    mul-if2-2
-    shared-slice-read-if2
+    (λ c. search needs)
+    (λ c. search needs)
+    (λ c. search needs)
+    (λ c. search needs)
     cast-if2
     same-length-2
     returns-2
     enter-requires
-    add-k
-    loop-less
+    (λ c. search needs)
+    (λ c. search needs)
     loop-again
     same-length-3
     returns-3)

@@ -15,9 +15,6 @@ Inv-loop moves index room from label states₀ stamp count all₀ at₀ states a
 abbrev μ-loop : tie.MeasureT-loop
 μ-loop moves index room from label states₀ stamp count all₀ at₀ states all at = at
 
-slot-requires : tie.Need-slot-requires Inv-loop μ-loop
-slot-requires c κs = search needs
-
 mul-at : tie.Need-mul-at Inv-loop μ-loop
 mul-at c = omega (arith, c .slot .ensures .1, c .before .before .before .before .pre .0 .few)
 
@@ -30,50 +27,11 @@ cast-at c = omega (arith, (c .shared-slice-known3 .given) (c .before .slot .resu
 loop-holds : tie.Need-loop-holds Inv-loop μ-loop
 loop-holds c = rw (c .before .slot .ensures .0) (walked-start _ _ _ _ (c .before .before .before .before .before .pre .0) _ _ _ _ (c .before .before .before .before .before .pre .1 .0) (c .before .before .before .before .before .pre .1 .1))
 
-sub-k : tie.Need-sub-k Inv-loop μ-loop
-sub-k c = search needs
-
-mul-if1 : tie.Need-mul-if1 Inv-loop μ-loop
-mul-if1 c = search needs
-
-add-if1 : tie.Need-add-if1 Inv-loop μ-loop
-add-if1 c = search needs
-
-mul-if1-2 : tie.Need-mul-if1-2 Inv-loop μ-loop
-mul-if1-2 c = search needs
-
-shared-slice-read-if1 : tie.Need-shared-slice-read-if1 Inv-loop μ-loop
-shared-slice-read-if1 c = search needs
-
-mul-put : tie.Need-mul-put Inv-loop μ-loop
-mul-put c = search needs
-
-add-put : tie.Need-add-put Inv-loop μ-loop
-add-put c = search needs
-
-mul-put-2 : tie.Need-mul-put-2 Inv-loop μ-loop
-mul-put-2 c = search needs
-
-shared-slice-read-put : tie.Need-shared-slice-read-put Inv-loop μ-loop
-shared-slice-read-put c = search needs
-
 cast-put : tie.Need-cast-put Inv-loop μ-loop
 cast-put c = omega (arith, (c .shared-slice-known5 .given) (3 * (c .before .before .before .before .before .loop .at - 1) + 2))
 
 put-requires : tie.Need-put-requires Inv-loop μ-loop
 put-requires c κs = (c .before .before .before .before .before .before .before .before .before .before .before .pre .0 .few, (c .before .before .before .before .before .loop .inv .spread .added .good, c .before .before .before .before .before .before .before .before .before .before .before .pre .0 .fit .to-fits (c .before .before .before .before .before .loop .at - 1) (omega (arith, c .before .before .before .before .before .loop .inv .low, c .before .before .before .before .loop-test .taken))))
-
-mul-at-2 : tie.Need-mul-at-2 Inv-loop μ-loop
-mul-at-2 c = search needs
-
-add-at : tie.Need-add-at Inv-loop μ-loop
-add-at c = search needs
-
-mul-at-3 : tie.Need-mul-at-3 Inv-loop μ-loop
-mul-at-3 c = search needs
-
-shared-slice-read-at-2 : tie.Need-shared-slice-read-at-2 Inv-loop μ-loop
-shared-slice-read-at-2 c = search needs
 
 cast-at-2 : tie.Need-cast-at-2 Inv-loop μ-loop
 cast-at-2 c = omega (arith, (c .shared-slice-known6 .given) (2 * c .before .before .before .before .before .before .before .before .before .before .args .room + (c .before .before .before .before .loop .at - 1)))
@@ -87,9 +45,6 @@ loop-again c = ⊎-elim
     (λ w. rw (w .1, w .2) (walked-other _ _ _ _ (c .before .before .before .before .before .before .before .before .before .before .pre .0) _ _ _ _ _ _ _ (c .before .before .before .before .loop .inv) (c .before .before .before .loop-test .taken) (w .0 .left)))
     (c .before .if1 .came)
 
-same-length : tie.Need-same-length Inv-loop μ-loop
-same-length c = search needs
-
 returns : tie.Need-returns Inv-loop μ-loop
 returns c = let e : c .before .loop .at ≡ 0 = omega (arith, c .loop-test .left) in rw e at (c .before .loop .inv .spread)
 
@@ -99,28 +54,28 @@ spread-spec =
     (tie.spec
     Inv-loop
     μ-loop
-    slot-requires
+    (λ c κs. search needs)
     mul-at
     shared-slice-read-at
     cast-at
     loop-holds
-    sub-k
-    mul-if1
-    add-if1
-    mul-if1-2
-    shared-slice-read-if1
-    mul-put
-    add-put
-    mul-put-2
-    shared-slice-read-put
+    (λ c. search needs)
+    (λ c. search needs)
+    (λ c. search needs)
+    (λ c. search needs)
+    (λ c. search needs)
+    (λ c. search needs)
+    (λ c. search needs)
+    (λ c. search needs)
+    (λ c. search needs)
     cast-put
     put-requires
-    mul-at-2
-    add-at
-    mul-at-3
-    shared-slice-read-at-2
+    (λ c. search needs)
+    (λ c. search needs)
+    (λ c. search needs)
+    (λ c. search needs)
     cast-at-2
     loop-less
     loop-again
-    same-length
+    (λ c. search needs)
     returns)

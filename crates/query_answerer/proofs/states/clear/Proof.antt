@@ -17,15 +17,6 @@ abbrev μ-loop : tie.MeasureT-loop
 loop-holds : tie.Need-loop-holds Inv-loop μ-loop
 loop-holds c = (omega arith, (refl, λ x l. absurd (omega arith)))
 
-mul-states : tie.Need-mul-states Inv-loop μ-loop
-mul-states c = search needs
-
-slice-write-states : tie.Need-slice-write-states Inv-loop μ-loop
-slice-write-states c = search needs
-
-add-i : tie.Need-add-i Inv-loop μ-loop
-add-i c = search needs
-
 loop-less : tie.Need-loop-less Inv-loop μ-loop
 loop-less c = omega (arith, c .before .loop .inv .1 .0)
 
@@ -45,9 +36,9 @@ clear-spec =
     Inv-loop
     μ-loop
     loop-holds
-    mul-states
-    slice-write-states
-    add-i
+    (λ c. search needs)
+    (λ c. search needs)
+    (λ c. search needs)
     loop-less
     loop-again
     same-length

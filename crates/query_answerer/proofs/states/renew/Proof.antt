@@ -5,24 +5,6 @@ use borrow.Author.Needs.{needs}
 use Rattle.query_answerer.proofs.states.renew.Statement.{statement}
 use Rattle.query_answerer.proofs.states.renew.Tie as tie
 
-cast-result : tie.Need-cast-result
-cast-result c = search needs
-
-returns : tie.Need-returns
-returns c = search needs
-
-clear-requires : tie.Need-clear-requires
-clear-requires c κs = search needs
-
-clear-requires-2 : tie.Need-clear-requires-2
-clear-requires-2 c κs = search needs
-
-same-length : tie.Need-same-length
-same-length c = search needs
-
-same-length-2 : tie.Need-same-length-2
-same-length-2 c = search needs
-
 returns-2 : tie.Need-returns-2
 returns-2 c = (omega arith, (unused-cleared 2048 (c .before .before .before .before .before .before .before .before .before .before .before .args .states .now) (c .before .before .before .before .before .before .clear .last .0) (c .before .before .before .before .before .before .before .before .before .before .before .pre .0 .size) (c .before .before .before .before .before .before .clear .ensures .0) (c .before .before .before .before .before .before .clear .ensures .1), unused-cleared 2048 (c .before .before .before .before .before .before .before .before .before .before .before .args .others .now) (c .before .before .clear2 .last .0) (c .before .before .before .before .before .before .before .before .before .before .before .pre .1 .size) (c .before .before .clear2 .ensures .0) (c .before .before .clear2 .ensures .1)))
 
@@ -30,10 +12,10 @@ pub renew-spec : {M : Type 1} → statement M
 renew-spec =
     tie.close
     (tie.spec
-    cast-result
-    returns
-    clear-requires
-    clear-requires-2
-    same-length
-    same-length-2
+    (λ c. search needs)
+    (λ c. search needs)
+    (λ c κs. search needs)
+    (λ c κs. search needs)
+    (λ c. search needs)
+    (λ c. search needs)
     returns-2)

@@ -18,29 +18,14 @@ Inv-loop names role chain end i₀ i = (i ≤ length chain) × ((k : ℕ) → k 
 abbrev μ-loop : tie.MeasureT-loop
 μ-loop names role chain end i₀ i = length chain - i
 
-mul-end : tie.Need-mul-end Inv-loop μ-loop
-mul-end c = search needs
-
 returns : tie.Need-returns Inv-loop μ-loop
 returns c = ap check (sym (named-not _ (c .before .args .role ∷ c .before .args .chain .now) 0 (omega arith) (omega arith)))
-
-loop-holds : tie.Need-loop-holds Inv-loop μ-loop
-loop-holds c = search needs
-
-shared-slice-read-if2 : tie.Need-shared-slice-read-if2 Inv-loop μ-loop
-shared-slice-read-if2 c = search needs
 
 cast-if2 : tie.Need-cast-if2 Inv-loop μ-loop
 cast-if2 c = omega (arith, (c .shared-slice-known .given) (c .before .before .loop .i))
 
 returns-2 : tie.Need-returns-2 Inv-loop μ-loop
 returns-2 c = ap check (sym (named-not _ (c .before .before .before .before .before .args .role ∷ c .before .before .before .before .before .args .chain .now) (suc (c .before .before .before .loop .i)) (omega arith) (c .if2 .taken)))
-
-add-i : tie.Need-add-i Inv-loop μ-loop
-add-i c = search needs
-
-loop-less : tie.Need-loop-less Inv-loop μ-loop
-loop-less c = search needs
 
 loop-again : tie.Need-loop-again Inv-loop μ-loop
 loop-again c = (omega arith, below-more _ _ (c .before .before .before .loop .inv .1) (c .if2 .left))
@@ -54,13 +39,13 @@ roles-fit-spec =
     (tie.spec
     Inv-loop
     μ-loop
-    mul-end
+    (λ c. search needs)
     returns
-    loop-holds
-    shared-slice-read-if2
+    (λ c. search needs)
+    (λ c. search needs)
     cast-if2
     returns-2
-    add-i
-    loop-less
+    (λ c. search needs)
+    (λ c. search needs)
     loop-again
     returns-3)

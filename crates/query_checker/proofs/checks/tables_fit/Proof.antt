@@ -14,9 +14,6 @@ returns c = ap check (sym (heads-none _ _ (c .if1 .taken)))
 returns-2 : tie.Need-returns-2
 returns-2 c = ap check (sym (heads-many _ _ (c .before .if1 .left) (omega arith)))
 
-heads-fit-requires : tie.Need-heads-fit-requires
-heads-fit-requires c κs = search needs
-
 returns-3 : tie.Need-returns-3
 returns-3 c = ap check (sym (heads-wrong _ _ (c .before .before .before .if1 .left) (c .before .before .if2 .left) (test-failed _ _ (c .before .heads-fit .ensures) (c .if3 .taken))))
 
@@ -25,9 +22,6 @@ returns-4 c = ap check (sym (moves-cut _ _ (c .before .before .before .before .i
 
 returns-5 : tie.Need-returns-5
 returns-5 c = ap check (sym (moves-many _ _ (c .before .before .before .before .before .if1 .left) (c .before .before .before .before .if2 .left) (test-passed _ _ (c .before .before .before .heads-fit .ensures) (c .before .before .if3 .left)) (c .before .if4 .left) (c .if5 .taken)))
-
-transitions-fit-requires : tie.Need-transitions-fit-requires
-transitions-fit-requires c κs = search needs
 
 returns-6 : tie.Need-returns-6
 returns-6 c = ap check (sym (moves-left _ _ (c .before .before .before .before .before .before .before .if1 .left) (c .before .before .before .before .before .before .if2 .left) (test-passed _ _ (c .before .before .before .before .before .heads-fit .ensures) (c .before .before .before .before .if3 .left)) (c .before .before .before .if4 .left) (c .before .before .if5 .left) ∙ test-failed _ _ (c .before .transitions-fit .ensures) (c .if6 .taken)))
@@ -41,10 +35,10 @@ tables-fit-spec =
     (tie.spec
     returns
     returns-2
-    heads-fit-requires
+    (λ c κs. search needs)
     returns-3
     returns-4
     returns-5
-    transitions-fit-requires
+    (λ c κs. search needs)
     returns-6
     returns-7)

@@ -32,9 +32,6 @@ place-of-requires c κs = (omega (arith, c .before .before .before .before .befo
 shared-slice-read-name : tie.Need-shared-slice-read-name Inv-loop μ-loop
 shared-slice-read-name c = links-at _ _ (c .before .before .before .before .before .before .before .pre .0 .0) _ (c .before .before .before .before .before .before .before .pre .0 .1) _ _ (c .before .before .before .loop-test .taken) (c .before .before .before .before .loop .inv .0) (c .before .before .before .before .loop .inv .1) _ (c .before .place-of .ensures)
 
-name-requires : tie.Need-name-requires Inv-loop μ-loop
-name-requires c κs = search needs
-
 cast-x : tie.Need-cast-x Inv-loop μ-loop
 cast-x c = omega (arith, small c)
 
@@ -90,7 +87,7 @@ link-spec =
     sub-k
     place-of-requires
     shared-slice-read-name
-    name-requires
+    (λ c κs. search needs)
     cast-x
     add-later
     mul-later

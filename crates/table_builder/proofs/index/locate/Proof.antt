@@ -18,9 +18,6 @@ Inv-loop book rules index₀ cursor₀ k₀ index cursor k = (k ≤ rules) × ((
 abbrev μ-loop : tie.MeasureT-loop
 μ-loop book rules index₀ cursor₀ k₀ index cursor k = rules - k
 
-first-requires : tie.Need-first-requires Inv-loop μ-loop
-first-requires c κs = search needs
-
 loop-holds : tie.Need-loop-holds Inv-loop μ-loop
 unfolding rule-place
 loop-holds c = (omega arith, (c .first .ensures, located-none _ _ (c .before .before .before .pre .1)))
@@ -34,15 +31,6 @@ mul-index c = omega (arith, c .before .before .before .before .before .before .p
 slice-write-index : tie.Need-slice-write-index Inv-loop μ-loop
 slice-write-index c = omega (arith, c .before .before .before .before .before .before .pre .0 .few, c .before .before .loop .inv .1 .1 .size)
 
-step-requires : tie.Need-step-requires Inv-loop μ-loop
-step-requires c κs = search needs
-
-enum-known-after : tie.Need-enum-known-after Inv-loop μ-loop
-enum-known-after c = search needs
-
-enum-told : tie.Need-enum-told Inv-loop μ-loop
-enum-told c = search needs
-
 same-length : tie.Need-same-length Inv-loop μ-loop
 same-length c = simp length-set (c .before .before .before .before .before .loop .inv .1 .1 .size ∙ sym (c .before .before .before .before .before .before .before .before .before .pre .1))
 
@@ -52,14 +40,8 @@ returns c = absurd (some-rule _ _ _ _ (c .before .before .before .before .before
 add-k : tie.Need-add-k Inv-loop μ-loop
 add-k c = omega (arith, c .before .before .before .before .before .before .before .before .before .before .pre .0 .few)
 
-loop-less : tie.Need-loop-less Inv-loop μ-loop
-loop-less c = search needs
-
 loop-again : tie.Need-loop-again Inv-loop μ-loop
 loop-again c = (omega arith, (at-rule _ _ _ _ _ _ (c .before .before .before .before .before .before .loop .inv .1 .0) (c .before .before .before .step .ensures) (c .before .after .given .1) .place, located-more _ _ _ _ (omega (arith, c .before .before .before .before .before .before .before .before .before .before .pre .0 .few)) (c .before .before .before .before .before .before .loop .inv .1 .0) (c .before .before .before .before .before .before .loop .inv .1 .1)))
-
-same-length-2 : tie.Need-same-length-2 Inv-loop μ-loop
-same-length-2 c = search needs
 
 returns-2 : tie.Need-returns-2 Inv-loop μ-loop
 returns-2 c = let e : c .before .before .before .before .before .args .rules ≡ c .before .loop .k = omega arith in rw e (c .before .loop .inv .1 .1)
@@ -70,18 +52,18 @@ locate-spec =
     (tie.spec
     Inv-loop
     μ-loop
-    first-requires
+    (λ c κs. search needs)
     loop-holds
     cast-index
     mul-index
     slice-write-index
-    step-requires
-    enum-known-after
-    enum-told
+    (λ c κs. search needs)
+    (λ c. search needs)
+    (λ c. search needs)
     same-length
     returns
     add-k
-    loop-less
+    (λ c. search needs)
     loop-again
-    same-length-2
+    (λ c. search needs)
     returns-2)

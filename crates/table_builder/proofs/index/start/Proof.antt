@@ -51,9 +51,6 @@ loop-less c = omega arith
 loop-again : tie.Need-loop-again Inv-loop μ-loop
 loop-again c = (omega arith, started-more _ _ _ _ (c .before .loop-test .taken) (c .before .before .loop .inv .1))
 
-same-length : tie.Need-same-length Inv-loop μ-loop
-same-length c = search needs
-
 returns : tie.Need-returns Inv-loop μ-loop
 returns c = let e : 64 ≡ c .before .loop .x = omega arith in rw e (c .before .loop .inv .1)
 
@@ -75,5 +72,5 @@ start-spec =
     add-x
     loop-less
     loop-again
-    same-length
+    (λ c. search needs)
     returns)

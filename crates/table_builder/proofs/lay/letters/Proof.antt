@@ -5,21 +5,6 @@ use Rattle.table_laying.specs.Fragment.{laid-three}
 use Rattle.table_builder.proofs.lay.letters.Statement.{statement}
 use Rattle.table_builder.proofs.lay.letters.Tie as tie
 
-add-transition : tie.Need-add-transition
-add-transition c = search needs
-
-transition-requires : tie.Need-transition-requires
-transition-requires c κs = search needs
-
-second-letter-requires : tie.Need-second-letter-requires
-second-letter-requires c κs = search needs
-
-back-requires : tie.Need-back-requires
-back-requires c κs = search needs
-
-same-length : tie.Need-same-length
-same-length c = search needs
-
 returns : tie.Need-returns
 returns c = (
   c .before .before .back .ensures .0,
@@ -33,9 +18,9 @@ pub letters-spec : {M : Type 1} → statement M
 letters-spec =
     tie.close
     (tie.spec
-    add-transition
-    transition-requires
-    second-letter-requires
-    back-requires
-    same-length
+    (λ c. search needs)
+    (λ c κs. search needs)
+    (λ c κs. search needs)
+    (λ c κs. search needs)
+    (λ c. search needs)
     returns)

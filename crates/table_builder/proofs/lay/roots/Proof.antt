@@ -23,9 +23,6 @@ loop-holds c = (rooting-start _ _ _ _ _, memo-none _ _ _ _ _ refl (λ r h. getD-
 cast-put : tie.Need-cast-put Inv-loop μ-loop
 cast-put c = omega (arith, c .before .before .loop .inv .0 .small .state)
 
-put-requires : tie.Need-put-requires Inv-loop μ-loop
-put-requires c κs = search needs
-
 mul-fragment : tie.Need-mul-fragment Inv-loop μ-loop
 mul-fragment c = omega (arith, c .before .before .before .before .loop-test .taken, c .before .before .before .before .before .before .before .before .before .before .pre .1)
 
@@ -37,9 +34,6 @@ slice-aggregate-fragment c = sym (c .before .before .before .before .before .bef
 
 fragment-requires : tie.Need-fragment-requires Inv-loop μ-loop
 fragment-requires c κs = (c .before .before .before .before .before .before .before .before .before .before .before .before .pre .0, (omega (arith, c .before .before .before .before .before .before .loop-test .taken, c .before .before .before .before .before .before .before .before .before .before .before .before .pre .1), (c .before .before .before .before .before .before .before .loop .inv .0 .small, c .before .before .before .before .before .before .before .loop .inv .1)))
-
-add-x : tie.Need-add-x Inv-loop μ-loop
-add-x c = search needs
 
 loop-less : tie.Need-loop-less Inv-loop μ-loop
 loop-less c = omega (arith, c .before .before .before .before .before .before .before .before .before .before .loop-test .taken)
@@ -67,12 +61,12 @@ roots-spec =
     μ-loop
     loop-holds
     cast-put
-    put-requires
+    (λ c κs. search needs)
     mul-fragment
     cast-fragment
     slice-aggregate-fragment
     fragment-requires
-    add-x
+    (λ c. search needs)
     loop-less
     loop-again
     same-length

@@ -5,21 +5,6 @@ use Rattle.table_laying.specs.Laid.{laid-none}
 use Rattle.table_builder.proofs.lay.second_letter.Statement.{statement}
 use Rattle.table_builder.proofs.lay.second_letter.Tie as tie
 
-inverse-requires : tie.Need-inverse-requires
-inverse-requires c κs = search needs
-
-cast-transition : tie.Need-cast-transition
-cast-transition c = search needs
-
-add-transition : tie.Need-add-transition
-add-transition c = search needs
-
-transition-requires : tie.Need-transition-requires
-transition-requires c κs = search needs
-
-same-length : tie.Need-same-length
-same-length c = search needs
-
 returns : tie.Need-returns
 returns c = (c .before .before .transition .ensures .0, (c .before .before .transition .ensures .1 .0, rw (c .before .before .before .before .before .if1 .taken, ← c .before .before .before .before .inverse .ensures) (c .before .before .transition .ensures .1 .1)))
 
@@ -30,10 +15,10 @@ pub second-letter-spec : {M : Type 1} → statement M
 second-letter-spec =
     tie.close
     (tie.spec
-    inverse-requires
-    cast-transition
-    add-transition
-    transition-requires
-    same-length
+    (λ c κs. search needs)
+    (λ c. search needs)
+    (λ c. search needs)
+    (λ c κs. search needs)
+    (λ c. search needs)
     returns
     returns-2)

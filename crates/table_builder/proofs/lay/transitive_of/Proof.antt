@@ -21,9 +21,6 @@ Inv-loop book index role x k₀ k = (ρs : List Rule) (i : Indexed book ρs inde
 abbrev μ-loop : tie.MeasureT-loop
 μ-loop book index role x k₀ k = 256 - k
 
-name-requires : tie.Need-name-requires Inv-loop μ-loop
-name-requires c κs = search needs
-
 cast-x : tie.Need-cast-x Inv-loop μ-loop
 cast-x c = omega (arith, name-small (c .before .before .before .args .book .now) (c .before .before .before .pre .0 .0) (c .before .before .before .args .index .now) (c .before .before .before .pre .0 .1) (c .before .before .before .args .role) (c .before .before .before .pre .1), c .name .ensures)
 
@@ -38,9 +35,6 @@ place-of-requires c κs = (c .loop-test .taken, c .before .before .before .befor
 
 shape-at-requires : tie.Need-shape-at-requires Inv-loop μ-loop
 shape-at-requires c κs = rw (c .place-of .ensures) (c .before .before .before .before .before .before .before .pre .0 .1 .whole (c .before .before .loop .k) (c .before .before .loop .inv (c .before .before .before .before .before .before .before .pre .0 .0) (c .before .before .before .before .before .before .before .pre .0 .1) .at .real (c .before .loop-test .taken)))
-
-is-transitive-requires : tie.Need-is-transitive-requires Inv-loop μ-loop
-is-transitive-requires c κs = search needs
 
 returns : tie.Need-returns Inv-loop μ-loop
 returns c =
@@ -78,13 +72,13 @@ transitive-of-spec =
     (tie.spec
     Inv-loop
     μ-loop
-    name-requires
+    (λ c κs. search needs)
     cast-x
     first-of-requires
     loop-holds
     place-of-requires
     shape-at-requires
-    is-transitive-requires
+    (λ c κs. search needs)
     returns
     next-of-requires
     loop-less

@@ -6,21 +6,6 @@ use Rattle.table_builder.specs.AgainLaws.{held-kept, again-over, again-f
 use Rattle.table_builder.proofs.memo.again.Statement.{statement}
 use Rattle.table_builder.proofs.memo.again.Tie as tie
 
-add-number : tie.Need-add-number
-add-number c = search needs
-
-number-requires : tie.Need-number-requires
-number-requires c κs = search needs
-
-number-requires-2 : tie.Need-number-requires-2
-number-requires-2 c κs = search needs
-
-add-next : tie.Need-add-next
-add-next c = search needs
-
-add-end : tie.Need-add-end
-add-end c = search needs
-
 returns : tie.Need-returns
 returns c = (
   record { state = omega arith; count = c .before .before .before .before .before .pre .1 .0 .0 .count },
@@ -35,9 +20,6 @@ returns-2 c = (
       again-full _ _ _ _ (c .before .before .before .before .before .before .args .place) (c .before .before .before .before .before .before .args .moves .now) z at (held-kept (c .before .before .before .before .before .before .args .memo .now) (c .before .before .before .before .before .before .args .r) (c .before .before .before .before .before .before .args .place) (c .before .before .before .before .before .before .args .moves .now) z at k (c .before .before .number2 .result) _ (c .before .before .before .number .result) _ (c .before .before .number2 .ensures .0) refl (c .before .before .before .number .ensures .0) refl) (c .before .if1 .left) (c .if2 .taken),
 )
 
-mul-if3 : tie.Need-mul-if3
-mul-if3 c = search needs
-
 returns-3 : tie.Need-returns-3
 returns-3 c = (
   record { state = omega (arith, c .before .before .if1 .left); count = omega (arith, c .before .if2 .left) },
@@ -45,23 +27,11 @@ returns-3 c = (
       again-short _ _ _ _ (c .before .before .before .before .before .before .before .args .place) (c .before .before .before .before .before .before .before .args .moves .now) z at (held-kept (c .before .before .before .before .before .before .before .args .memo .now) (c .before .before .before .before .before .before .before .args .r) (c .before .before .before .before .before .before .before .args .place) (c .before .before .before .before .before .before .before .args .moves .now) z at k (c .before .before .before .number2 .result) _ (c .before .before .before .before .number .result) _ (c .before .before .before .number2 .ensures .0) refl (c .before .before .before .before .number .ensures .0) refl) (c .before .before .if1 .left) (c .if3 .taken),
 )
 
-add-number-2 : tie.Need-add-number-2
-add-number-2 c = search needs
-
-number-requires-3 : tie.Need-number-requires-3
-number-requires-3 c κs = search needs
-
 sub-by : tie.Need-sub-by
 sub-by c =
     let h = c .before .before .before .before .before .before .before .before .pre .1 .1 in
     let k = held-kept (c .before .before .before .before .before .before .before .before .args .memo .now) (c .before .before .before .before .before .before .before .before .args .r) (c .before .before .before .before .before .before .before .before .args .place) (c .before .before .before .before .before .before .before .before .args .moves .now) (h .0) (h .1) (h .2) (c .before .before .before .before .number2 .result) _ (c .before .before .before .before .before .number .result) (c .number3 .result) (c .before .before .before .before .number2 .ensures .0) refl (c .before .before .before .before .before .number .ensures .0) (c .number3 .ensures .0) in
     again-before _ _ _ _ (c .before .before .before .before .before .before .before .before .args .place) (c .before .before .before .before .before .before .before .before .args .moves .now) (h .0) (h .1) k (c .before .before .before .before .before .before .before .before .pre .1 .0 .1, omega (arith, c .before .before .if2 .left)) (c .before .if3 .left) .0
-
-add-number-3 : tie.Need-add-number-3
-add-number-3 c = search needs
-
-number-requires-4 : tie.Need-number-requires-4
-number-requires-4 c κs = search needs
 
 shift-requires : tie.Need-shift-requires
 shift-requires c κs =
@@ -70,9 +40,6 @@ shift-requires c κs =
       (again-before _ _ _ _ (c .before .before .before .before .before .before .before .before .before .before .args .place) (c .before .before .before .before .before .before .before .before .before .before .args .moves .now) (h .0) (h .1) k (c .before .before .before .before .before .before .before .before .before .before .pre .1 .0 .1, omega (arith, c .before .before .before .before .if2 .left)) (c .before .before .before .if3 .left) .1, c .before .before .before .if3 .left),
       λ j l. again-near _ _ _ _ (c .before .before .before .before .before .before .before .before .before .before .args .place) (c .before .before .before .before .before .before .before .before .before .before .args .moves .now) (h .0) (h .1) k (c .before .before .before .before .before .before .before .before .before .before .pre .1 .0 .1, omega (arith, c .before .before .before .before .if2 .left)) (c .before .before .before .if3 .left) j l (c .before .before .before .before .before .if1 .left),
     )
-
-same-length : tie.Need-same-length
-same-length c = search needs
 
 returns-4 : tie.Need-returns-4
 returns-4 c = (
@@ -86,20 +53,20 @@ pub again-spec : {M : Type 1} → statement M
 again-spec =
     tie.close
     (tie.spec
-    add-number
-    number-requires
-    number-requires-2
-    add-next
-    add-end
+    (λ c. search needs)
+    (λ c κs. search needs)
+    (λ c κs. search needs)
+    (λ c. search needs)
+    (λ c. search needs)
     returns
     returns-2
-    mul-if3
+    (λ c. search needs)
     returns-3
-    add-number-2
-    number-requires-3
+    (λ c. search needs)
+    (λ c κs. search needs)
     sub-by
-    add-number-3
-    number-requires-4
+    (λ c. search needs)
+    (λ c κs. search needs)
     shift-requires
-    same-length
+    (λ c. search needs)
     returns-4)

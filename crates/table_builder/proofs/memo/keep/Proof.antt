@@ -16,23 +16,8 @@ returns-2 c = inl refl
 sub-memo : tie.Need-sub-memo
 sub-memo c = omega (arith, c .before .before .pre .1 (c .before .if1 .left, c .if2 .left) .0)
 
-cast-memo : tie.Need-cast-memo
-cast-memo c = search needs
-
-mul-memo : tie.Need-mul-memo
-mul-memo c = search needs
-
-slice-write-memo : tie.Need-slice-write-memo
-slice-write-memo c = search needs
-
 cast-memo-2 : tie.Need-cast-memo-2
 cast-memo-2 c = omega (arith, c .if2 .left, c .before .before .pre .1 (c .before .if1 .left, c .if2 .left) .1)
-
-add-memo : tie.Need-add-memo
-add-memo c = search needs
-
-mul-memo-2 : tie.Need-mul-memo-2
-mul-memo-2 c = search needs
 
 slice-write-memo-2 : tie.Need-slice-write-memo-2
 slice-write-memo-2 c = simp length-set (omega (arith, c .before .before .pre .0))
@@ -40,32 +25,14 @@ slice-write-memo-2 c = simp length-set (omega (arith, c .before .before .pre .0)
 sub-memo-2 : tie.Need-sub-memo-2
 sub-memo-2 c = omega (arith, c .before .before .pre .1 (c .before .if1 .left, c .if2 .left) .1)
 
-cast-memo-3 : tie.Need-cast-memo-3
-cast-memo-3 c = search needs
-
-add-memo-2 : tie.Need-add-memo-2
-add-memo-2 c = search needs
-
-mul-memo-3 : tie.Need-mul-memo-3
-mul-memo-3 c = search needs
-
 slice-write-memo-3 : tie.Need-slice-write-memo-3
 slice-write-memo-3 c = simp length-set (omega (arith, c .before .before .pre .0))
 
 cast-memo-4 : tie.Need-cast-memo-4
 cast-memo-4 c = omega (arith, c .before .if1 .left, c .before .before .pre .1 (c .before .if1 .left, c .if2 .left) .0)
 
-add-memo-3 : tie.Need-add-memo-3
-add-memo-3 c = search needs
-
-mul-memo-4 : tie.Need-mul-memo-4
-mul-memo-4 c = search needs
-
 slice-write-memo-4 : tie.Need-slice-write-memo-4
 slice-write-memo-4 c = simp length-set (omega (arith, c .before .before .pre .0))
-
-same-length : tie.Need-same-length
-same-length c = search needs
 
 returns-3 : tie.Need-returns-3
 returns-3 c = inr ((c .before .if1 .left, c .if2 .left), refl)
@@ -77,21 +44,21 @@ keep-spec =
     returns
     returns-2
     sub-memo
-    cast-memo
-    mul-memo
-    slice-write-memo
+    (λ c. search needs)
+    (λ c. search needs)
+    (λ c. search needs)
     cast-memo-2
-    add-memo
-    mul-memo-2
+    (λ c. search needs)
+    (λ c. search needs)
     slice-write-memo-2
     sub-memo-2
-    cast-memo-3
-    add-memo-2
-    mul-memo-3
+    (λ c. search needs)
+    (λ c. search needs)
+    (λ c. search needs)
     slice-write-memo-3
     cast-memo-4
-    add-memo-3
-    mul-memo-4
+    (λ c. search needs)
+    (λ c. search needs)
     slice-write-memo-4
-    same-length
+    (λ c. search needs)
     returns-3)

@@ -35,38 +35,11 @@ number-requires c κs = omega (arith, c .before .loop-test .taken, c .before .be
 add-begins : tie.Need-add-begins Inv-loop μ-loop
 add-begins c = omega (arith, c .number .ensures .0, shifting-near _ _ _ _ _ _ _ (c .before .before .before .loop .inv) (c .before .before .before .before .before .pre .0 .0) (c .before .before .loop-test .taken) (c .before .before .before .before .before .pre .1) .0)
 
-add-label : tie.Need-add-label Inv-loop μ-loop
-add-label c = search needs
-
-mul-label : tie.Need-mul-label Inv-loop μ-loop
-mul-label c = search needs
-
-slice-read-label : tie.Need-slice-read-label Inv-loop μ-loop
-slice-read-label c = search needs
-
-add-number : tie.Need-add-number Inv-loop μ-loop
-add-number c = search needs
-
-number-requires-2 : tie.Need-number-requires-2 Inv-loop μ-loop
-number-requires-2 c κs = search needs
-
 add-ends : tie.Need-add-ends Inv-loop μ-loop
 add-ends c = omega (arith, c .number2 .ensures .0, shifting-near _ _ _ _ _ _ _ (c .before .before .before .before .before .before .loop .inv) (c .before .before .before .before .before .before .before .before .pre .0 .0) (c .before .before .before .before .before .loop-test .taken) (c .before .before .before .before .before .before .before .before .pre .1) .1)
 
 cast-moves : tie.Need-cast-moves Inv-loop μ-loop
 cast-moves c = omega (arith, c .before .before .before .number .ensures .0, shifting-near _ _ _ _ _ _ _ (c .before .before .before .before .before .before .loop .inv) (c .before .before .before .before .before .before .before .before .pre .0 .0) (c .before .before .before .before .before .loop-test .taken) (c .before .before .before .before .before .before .before .before .pre .1) .0)
-
-mul-moves : tie.Need-mul-moves Inv-loop μ-loop
-mul-moves c = search needs
-
-slice-write-moves : tie.Need-slice-write-moves Inv-loop μ-loop
-slice-write-moves c = search needs
-
-add-moves : tie.Need-add-moves Inv-loop μ-loop
-add-moves c = search needs
-
-mul-moves-2 : tie.Need-mul-moves-2 Inv-loop μ-loop
-mul-moves-2 c = search needs
 
 slice-write-moves-2 : tie.Need-slice-write-moves-2 Inv-loop μ-loop
 slice-write-moves-2 c = simp length-set (omega (arith, c .before .before .before .before .before .loop-test .taken, c .before .before .before .before .before .before .before .before .pre .0 .1, c .before .before .before .before .before .before .loop .inv .same))
@@ -74,27 +47,12 @@ slice-write-moves-2 c = simp length-set (omega (arith, c .before .before .before
 cast-moves-2 : tie.Need-cast-moves-2 Inv-loop μ-loop
 cast-moves-2 c = omega (arith, c .number2 .ensures .0, shifting-near _ _ _ _ _ _ _ (c .before .before .before .before .before .before .loop .inv) (c .before .before .before .before .before .before .before .before .pre .0 .0) (c .before .before .before .before .before .loop-test .taken) (c .before .before .before .before .before .before .before .before .pre .1) .1)
 
-add-moves-2 : tie.Need-add-moves-2 Inv-loop μ-loop
-add-moves-2 c = search needs
-
-mul-moves-3 : tie.Need-mul-moves-3 Inv-loop μ-loop
-mul-moves-3 c = search needs
-
 slice-write-moves-3 : tie.Need-slice-write-moves-3 Inv-loop μ-loop
 slice-write-moves-3 c = simp length-set (omega (arith, c .before .before .before .before .before .loop-test .taken, c .before .before .before .before .before .before .before .before .pre .0 .1, c .before .before .before .before .before .before .loop .inv .same))
-
-add-j : tie.Need-add-j Inv-loop μ-loop
-add-j c = search needs
-
-loop-less : tie.Need-loop-less Inv-loop μ-loop
-loop-less c = search needs
 
 loop-again : tie.Need-loop-again Inv-loop μ-loop
 loop-again c =
     shifting-next _ _ _ _ _ _ _ (c .before .before .before .before .before .before .loop .inv) (c .before .before .before .before .before .before .before .before .pre .0 .0) (c .before .before .before .before .before .loop-test .taken) _ _ _ (omega (arith, c .before .before .before .number .ensures .0)) refl (omega (arith, c .number2 .ensures .0))
-
-same-length : tie.Need-same-length Inv-loop μ-loop
-same-length c = search needs
 
 returns : tie.Need-returns Inv-loop μ-loop
 returns c = shifting-end _ _ _ _ _ _ _ (c .before .loop .inv) (c .loop-test .left)
@@ -112,24 +70,24 @@ shift-spec =
     mul-to
     number-requires
     add-begins
-    add-label
-    mul-label
-    slice-read-label
-    add-number
-    number-requires-2
+    (λ c. search needs)
+    (λ c. search needs)
+    (λ c. search needs)
+    (λ c. search needs)
+    (λ c κs. search needs)
     add-ends
     cast-moves
-    mul-moves
-    slice-write-moves
-    add-moves
-    mul-moves-2
+    (λ c. search needs)
+    (λ c. search needs)
+    (λ c. search needs)
+    (λ c. search needs)
     slice-write-moves-2
     cast-moves-2
-    add-moves-2
-    mul-moves-3
+    (λ c. search needs)
+    (λ c. search needs)
     slice-write-moves-3
-    add-j
-    loop-less
+    (λ c. search needs)
+    (λ c. search needs)
     loop-again
-    same-length
+    (λ c. search needs)
     returns)

@@ -8,30 +8,6 @@ use Rattle.transcript_writer.specs.PutsLaws.{puts-outcome}
 use Rattle.transcript_writer.proofs.line.first_line.Statement.{statement}
 use Rattle.transcript_writer.proofs.line.first_line.Tie as tie
 
-enum-known-outcome : tie.Need-enum-known-outcome
-enum-known-outcome c = search needs
-
-slice-aggregate-put-pair : tie.Need-slice-aggregate-put-pair
-slice-aggregate-put-pair c = search needs
-
-put-pair-requires : tie.Need-put-pair-requires
-put-pair-requires c κs = search needs
-
-enum-known-outcome-2 : tie.Need-enum-known-outcome-2
-enum-known-outcome-2 c = search needs
-
-slice-aggregate-put-pair-2 : tie.Need-slice-aggregate-put-pair-2
-slice-aggregate-put-pair-2 c = search needs
-
-cause-requires : tie.Need-cause-requires
-cause-requires c κs = search needs
-
-value-requires : tie.Need-value-requires
-value-requires c κs = search needs
-
-put-pair-requires-2 : tie.Need-put-pair-requires-2
-put-pair-requires-2 c κs = search needs
-
 returns : tie.Need-returns
 returns c = puts-outcome _ _ (c .before .before .before .before .outcome .given .1) (c .put-pair .ensures) refl
 
@@ -42,13 +18,13 @@ pub first-line-spec : {M : Type 1} → statement M
 first-line-spec =
     tie.close
     (tie.spec
-    enum-known-outcome
-    slice-aggregate-put-pair
-    put-pair-requires
-    enum-known-outcome-2
-    slice-aggregate-put-pair-2
-    cause-requires
-    value-requires
-    put-pair-requires-2
+    (λ c. search needs)
+    (λ c. search needs)
+    (λ c κs. search needs)
+    (λ c. search needs)
+    (λ c. search needs)
+    (λ c κs. search needs)
+    (λ c κs. search needs)
+    (λ c κs. search needs)
     returns
     returns-2)

@@ -7,21 +7,6 @@ use Rattle.transcript_writer.specs.FoundLaws.{puts-ending}
 use Rattle.transcript_writer.proofs.line.last_line.Statement.{statement}
 use Rattle.transcript_writer.proofs.line.last_line.Tie as tie
 
-find-requires : tie.Need-find-requires
-find-requires c κs = search needs
-
-enum-told : tie.Need-enum-told
-enum-told c = search needs
-
-enum-told-2 : tie.Need-enum-told-2
-enum-told-2 c = search needs
-
-put-cut-requires : tie.Need-put-cut-requires
-put-cut-requires c κs = search needs
-
-enum-told-3 : tie.Need-enum-told-3
-enum-told-3 c = search needs
-
 returns : tie.Need-returns
 returns c = puts-ending _ _ _ (c .before .before .find .ensures) (c .enum-told .given .1) (puts-none _ 0 (omega arith)) refl
 
@@ -35,11 +20,11 @@ pub last-line-spec : {M : Type 1} → statement M
 last-line-spec =
     tie.close
     (tie.spec
-    find-requires
-    enum-told
-    enum-told-2
-    put-cut-requires
-    enum-told-3
+    (λ c κs. search needs)
+    (λ c. search needs)
+    (λ c. search needs)
+    (λ c κs. search needs)
+    (λ c. search needs)
     returns
     returns-2
     returns-3)

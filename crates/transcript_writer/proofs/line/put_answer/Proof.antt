@@ -9,38 +9,11 @@ use Rattle.transcript_writer.specs.PutsLaws.{puts-then, puts-told, told-
 use Rattle.transcript_writer.proofs.line.put_answer.Statement.{statement}
 use Rattle.transcript_writer.proofs.line.put_answer.Tie as tie
 
-put-number-requires : tie.Need-put-number-requires
-put-number-requires c κs = search needs
-
-slice-aggregate-put : tie.Need-slice-aggregate-put
-slice-aggregate-put c = search needs
-
-put-requires : tie.Need-put-requires
-put-requires c κs = search needs
-
-slice-aggregate-put-2 : tie.Need-slice-aggregate-put-2
-slice-aggregate-put-2 c = search needs
-
-put-requires-2 : tie.Need-put-requires-2
-put-requires-2 c κs = search needs
-
-put-refusal-requires : tie.Need-put-refusal-requires
-put-refusal-requires c κs = search needs
-
-same-length : tie.Need-same-length
-same-length c = search needs
-
 returns : tie.Need-returns
 returns c = (puts-told (c .before .before .before .before .before .before .before .before .before .before .before .args .number) (c .before .before .before .before .before .before .before .before .before .before .before .args .answer) (ok false) (ap told (c .before .before .before .before .before .match .keys1)) (puts-then (c .before .before .before .before .before .before .before .before .put-number .ensures .0) (c .before .before .put .ensures)) refl, omega (arith, c .before .before .before .before .before .before .before .before .put-number .ensures .1, c .before .before .put .ensures .ends))
 
-same-length-2 : tie.Need-same-length-2
-same-length-2 c = search needs
-
 returns-2 : tie.Need-returns-2
 returns-2 c = (puts-told (c .before .before .before .before .before .before .before .before .before .before .before .args .number) (c .before .before .before .before .before .before .before .before .before .before .before .args .answer) (ok true) (ap told (c .before .before .before .before .before .match .keys2)) (puts-then (c .before .before .before .before .before .before .before .before .put-number .ensures .0) (c .before .before .put2 .ensures)) refl, omega (arith, c .before .before .before .before .before .before .before .before .put-number .ensures .1, c .before .before .put2 .ensures .ends))
-
-same-length-3 : tie.Need-same-length-3
-same-length-3 c = search needs
 
 returns-3 : tie.Need-returns-3
 returns-3 c = (puts-told (c .before .before .before .before .before .before .before .before .before .before .args .number) (c .before .before .before .before .before .before .before .before .before .before .args .answer) (refused (c .before .before .before .before .before .before .before .before .before .before .args .answer) 0) (told-refused (c .before .before .before .before .before .before .before .before .before .before .args .answer) (c .before .before .before .before .match .rest .0 .1) (c .before .before .before .before .match .rest .1)) (puts-then (c .before .before .before .before .before .before .before .put-number .ensures .0) (c .before .before .put-refusal .ensures .0)) refl, omega (arith, c .before .before .before .before .before .before .before .put-number .ensures .1, c .before .before .put-refusal .ensures .1))
@@ -49,15 +22,15 @@ pub put-answer-spec : {M : Type 1} → statement M
 put-answer-spec =
     tie.close
     (tie.spec
-    put-number-requires
-    slice-aggregate-put
-    put-requires
-    slice-aggregate-put-2
-    put-requires-2
-    put-refusal-requires
-    same-length
+    (λ c κs. search needs)
+    (λ c. search needs)
+    (λ c κs. search needs)
+    (λ c. search needs)
+    (λ c κs. search needs)
+    (λ c κs. search needs)
+    (λ c. search needs)
     returns
-    same-length-2
+    (λ c. search needs)
     returns-2
-    same-length-3
+    (λ c. search needs)
     returns-3)

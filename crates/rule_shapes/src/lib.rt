@@ -1,7 +1,7 @@
 // The shape of a rule, by its letters: which of document 01's five forms it can have, and where its inner roles lie in its left side.
 ghost use mathlib.Core.Bool.{true, false};
 ghost use mathlib.Core.Path.{_≡_};
-ghost use Rattle.order_checker.specs.FoundShape.{shape-found};
+ghost use Rattle.rule_shapes.specs.FoundShape.{shape-found};
 use role_bytes::inverse;
 
 pub enum Shape {

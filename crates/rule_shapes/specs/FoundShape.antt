@@ -8,8 +8,8 @@ use Rattle.order.specs.Shape.{End}
 use Rattle.order.specs.Shape.Shape.{transitive, symmetric, row}
 use Rattle.order.specs.Shape as Order
 use Rattle.order.specs.Shape.End.{initial, final}
-use Rattle.order_checker.specs.declared.shape.Shape.{Shape}
-use Rattle.order_checker.specs.declared.shape.Shape.the-variants.{Transitive, Symmetric, Row}
+use Rattle.rule_shapes.specs.declared.Shape.{Shape}
+use Rattle.rule_shapes.specs.declared.Shape.the-variants.{Transitive, Symmetric, Row}
 
 abbrev pub is-final : End → Bool
 is-final initial = false

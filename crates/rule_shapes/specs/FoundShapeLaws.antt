@@ -14,9 +14,9 @@ use Rattle.order.specs.Shape.Shape.{transitive, symmetric, row}
 use Rattle.order.specs.ShapeTests.{shape-led}
 use Rattle.order.specs.ShapeLaws.{View, view}
 use Rattle.order.specs.ShapeLaws.View.{is-transitive, is-symmetric, is-led, is-trailed, is-plain}
-use Rattle.order_checker.specs.declared.shape.Shape.{Shape}
-use Rattle.order_checker.specs.declared.shape.Shape.the-variants.{Transitive, Symmetric, Row}
-use Rattle.order_checker.specs.FoundShape.{in-part, shape-found, shape-in, Within}
+use Rattle.rule_shapes.specs.declared.Shape.{Shape}
+use Rattle.rule_shapes.specs.declared.Shape.the-variants.{Transitive, Symmetric, Row}
+use Rattle.rule_shapes.specs.FoundShape.{in-part, shape-found, shape-in, Within}
 
 -- the code's answers, by the rule's shape
 module _ (w : List ℕ) (r : ℕ) where

@@ -1,0 +1,2 @@
+pub mod FoundShape
+pub mod FoundShapeLaws
