@@ -5,3 +5,4 @@ pub mod Pigeonhole
 pub mod Result
 pub mod ResultLaws
 pub mod Part
+pub mod Decision

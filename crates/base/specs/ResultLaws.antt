@@ -3,7 +3,7 @@ use mathlib.Core.Bool.{Bool, true, false}
 use mathlib.Core.Path.{_≡_, refl}
 use Prim.Native.Nat.{ℕ}
 use native.Mathlib.Omega.{arith}
-use Rattle.base.specs.Result.{Result, demand}
+use Rattle.base.specs.Result.{Result, demand, and-then}
 use Rattle.base.specs.Result.Result.{refused, ok}
 
 module _ {A : Type 0} where
@@ -12,6 +12,10 @@ module _ {A : Type 0} where
 
   pub ok-injective : (a b : A) → ok a ≡ ok b → a ≡ b
   ok-injective a b h = cc
+
+  pub and-then-assoc : {B C : Type 0} (r : Result A) (f : A → Result B) (g : B → Result C) → and-then (and-then r f) g ≡ and-then r (λ a. and-then (f a) g)
+  and-then-assoc (refused c v) f g = refl
+  and-then-assoc (ok a) f g = refl
 
   pub demand-test : (t : Bool) (c v : ℕ) (rest : Result A) (a : A) → demand t c v rest ≡ ok a → t ≡ true
   demand-test true c v rest a h = refl

@@ -1,6 +1,8 @@
--- Causes 9 to 11: when a book is accepted, and when it is built in lent tables of some lengths, with what a build writes there.
+-- Causes 9 to 11, of a book and of bytes: when a book is accepted, and when it is built in lent tables of some lengths, with what a build writes there.
+-- The tables, and so these causes, are those of the book that is built from.
 use mathlib.Core.Bool.{_&&_}
 use mathlib.Core.List.{List, _++_}
+use mathlib.Core.Path.{_≡_}
 use Prim.Native.Nat.{ℕ, _*_}
 use lib.Dec.{leb}
 use lib.ListN.{length, drop}
@@ -8,7 +10,8 @@ use Rattle.roles.specs.Rule.{Book}
 use Rattle.tables.specs.Tables.{initial-states, transitions, state-count, numbers}
 use Rattle.base.specs.Result.{Result, demand, and-then}
 use Rattle.base.specs.Result.Result.{refused, ok}
-use Rattle.book_causes.specs.Ordered.{ordered}
+use Rattle.book_format.specs.Format.{decode, read}
+use Rattle.book_causes.specs.Source.{sourced-book}
 
 -- how many states and transitions the tables of a book have
 abbrev pub states-of : Book → ℕ
@@ -28,17 +31,30 @@ moves-of b = numbers (transitions (b .names) (b .rules))
 unfoldable pub fitting : Book → Result Book
 fitting b = demand (leb (states-of b) 2048) 9 0 (demand (leb (count-of b) 5120) 10 0 (ok b))
 
--- causes 1 to 10: the accepted book (document 01's word) that the bytes are
-abbrev pub accepted : List ℕ → Result Book
-accepted s = and-then (ordered s) fitting
+-- causes 7 to 10 of a book, wherever it comes from: the book that its tables are built from, where it is accepted (document 01's word)
+abbrev pub accepted-book : Book → Result Book
+accepted-book b = and-then (sourced-book b) fitting
+
+-- causes 1 to 10
+unfoldable pub accepted : List ℕ → Result Book
+accepted s = and-then (decode s) accepted-book
 
 -- cause 11, where tables of so many numbers are lent
 abbrev pub lent : (heads moves : ℕ) → Book → Result Book
 lent heads moves b = demand (leb (b .names) heads && leb (3 * count-of b) moves) 11 0 (ok b)
 
+-- causes 7 to 11 of a book
+abbrev pub built-book : (heads moves : ℕ) → Book → Result Book
+built-book heads moves b = and-then (accepted-book b) (lent heads moves)
+
 -- causes 1 to 11
 unfoldable pub built : List ℕ → (heads moves : ℕ) → Result Book
-built s heads moves = and-then (accepted s) (lent heads moves)
+built s heads moves = and-then (decode s) (built-book heads moves)
+
+-- the book b as written, and the book d that its tables are built from
+pub record Building (s : List ℕ) (heads moves : ℕ) (b d : Book) : Type 0 where
+  pub written : read s ≡ ok b
+  pub source : built s heads moves ≡ ok d
 
 -- new numbers over the front of old ones
 abbrev pub over : List ℕ → List ℕ → List ℕ

@@ -2,7 +2,7 @@
 -- are long enough, and one that is not accepted is refused alike whatever is lent.
 use mathlib.Core.Bool.{true, false, _&&_}
 use mathlib.Core.List.{List}
-use mathlib.Core.Path.{_≡_, refl, ap, _∙_, subst}
+use mathlib.Core.Path.{_≡_, refl, sym, ap, _∙_, subst}
 use Prim.Native.Nat.{ℕ, _*_, _<_, _≤_}
 use native.Mathlib.Omega.{arith}
 use borrow.Author.Tests.{le-leb, lt-leb, leb-true}
@@ -11,31 +11,46 @@ use Rattle.base.specs.Truth.{and-left, and-right}
 use Rattle.roles.specs.Rule.{Book}
 use Rattle.base.specs.Result.{Result, and-then}
 use Rattle.base.specs.Result.Result.{refused, ok}
-use Rattle.base.specs.ResultLaws.{refused-ok, ok-injective, demand-test, demand-rest}
+use Rattle.base.specs.ResultLaws.{refused-ok, ok-injective, and-then-assoc, demand-test, demand-rest}
+use Rattle.book_format.specs.Format.{decode}
 use Rattle.book_format.specs.ReadLaws.{read-few-names}
 use Rattle.book_causes.specs.Ordered
-use Rattle.book_causes.specs.Ordered.{ordered}
+use Rattle.book_causes.specs.Ordered.{ordered, ordered-book}
+use Rattle.book_causes.specs.Source.{sourced}
 use Rattle.book_causes.specs.OrderedRun.{ordered-read}
-use Rattle.book_causes.specs.Accepted.{states-of, count-of, fitting, accepted, lent, built}
+use Rattle.book_causes.specs.Accepted.{states-of, count-of, fitting, accepted-book, accepted, lent, built, Building}
+
+-- bytes are judged by one cause after another: a book with a regular order is built from itself
+pub sourced-ordered : (s : List ℕ) → sourced s ≡ ordered s
+unfolding sourced ordered
+sourced-ordered s = refl
+
+accepted-then : (s : List ℕ) → accepted s ≡ and-then (ordered s) fitting
+unfolding accepted ordered
+accepted-then s = sym (and-then-assoc (decode s) ordered-book fitting)
+
+built-then : (s : List ℕ) (heads moves : ℕ) → built s heads moves ≡ and-then (accepted s) (lent heads moves)
+unfolding built accepted
+built-then s heads moves = sym (and-then-assoc (decode s) accepted-book (lent heads moves))
 
 -- causes 9 and 10, for a book with a regular order
 module _ (s : List ℕ) where
   pub accepted-refused : (c v : ℕ) → ordered s ≡ refused c v → accepted s ≡ refused c v
-  accepted-refused c v h = rw h refl
+  accepted-refused c v h = accepted-then s ∙ rw h refl
 
   module _ (b : Book) (o : ordered s ≡ ok b) where
     pub accepted-states : 2048 < states-of b → accepted s ≡ refused 9 0
     unfolding fitting
-    accepted-states h = rw (o, lt-leb (states-of b) 2048 h) refl
+    accepted-states h = accepted-then s ∙ rw (o, lt-leb (states-of b) 2048 h) refl
 
     module _ (few : states-of b ≤ 2048) where
       pub accepted-count : 5120 < count-of b → accepted s ≡ refused 10 0
       unfolding fitting
-      accepted-count h = rw (o, le-leb (states-of b) 2048 few, lt-leb (count-of b) 5120 h) refl
+      accepted-count h = accepted-then s ∙ rw (o, le-leb (states-of b) 2048 few, lt-leb (count-of b) 5120 h) refl
 
       pub accepted-ok : count-of b ≤ 5120 → accepted s ≡ ok b
       unfolding fitting
-      accepted-ok h = rw (o, le-leb (states-of b) 2048 few, le-leb (count-of b) 5120 h) refl
+      accepted-ok h = accepted-then s ∙ rw (o, le-leb (states-of b) 2048 few, le-leb (count-of b) 5120 h) refl
 
 -- what an accepted book has passed
 pub record Passed (s : List ℕ) (b : Book) : Type 0 where
@@ -58,7 +73,7 @@ passed s b o h =
     }
 
 pub accepted-passed : (s : List ℕ) (b : Book) → accepted s ≡ ok b → Passed s b
-accepted-passed s b e = by-result (ordered s) refl e
+accepted-passed s b e = by-result (ordered s) refl (sym (accepted-then s) ∙ e)
   where
     by-result : (r : Result Book) → ordered s ≡ r → and-then r fitting ≡ ok b → Passed s b
     by-result (refused c v) f g = absurd (refused-ok c v b g)
@@ -70,24 +85,20 @@ accepted-passed s b e = by-result (ordered s) refl e
 module _ (s : List ℕ) (heads moves : ℕ) where
   -- a book that is not accepted is refused by the same cause with the same value, whatever is lent
   pub built-refused : (c v : ℕ) → accepted s ≡ refused c v → built s heads moves ≡ refused c v
-  unfolding built
-  built-refused c v h = rw h refl
+  built-refused c v h = built-then s heads moves ∙ rw h refl
 
   module _ (b : Book) where
     pub built-short : accepted s ≡ ok b → (leb (b .names) heads && leb (3 * count-of b) moves) ≡ false → built s heads moves ≡ refused 11 0
-    unfolding built
-    built-short a h = rw (a, h) refl
+    built-short a h = built-then s heads moves ∙ rw (a, h) refl
 
     -- an accepted book is built where the lent tables are long enough
     pub accepted-built : accepted s ≡ ok b → b .names ≤ heads → 3 * count-of b ≤ moves → built s heads moves ≡ ok b
-    unfolding built
-    accepted-built a h k = rw (a, le-leb (b .names) heads h, le-leb (3 * count-of b) moves k) refl
+    accepted-built a h k = built-then s heads moves ∙ rw (a, le-leb (b .names) heads h, le-leb (3 * count-of b) moves k) refl
 
     -- a book that is built is accepted, and the lent tables are long enough for it
     module _ (e : built s heads moves ≡ ok b) where
       both : (accepted s ≡ ok b) × ((leb (b .names) heads && leb (3 * count-of b) moves) ≡ true)
-      unfolding built
-      both = by-result (accepted s) refl e
+      both = by-result (accepted s) refl (sym (built-then s heads moves) ∙ e)
         where
           by-result : (r : Result Book) → accepted s ≡ r → and-then r (lent heads moves) ≡ ok b
               → (accepted s ≡ ok b) × ((leb (b .names) heads && leb (3 * count-of b) moves) ≡ true)
@@ -105,11 +116,19 @@ module _ (s : List ℕ) (heads moves : ℕ) where
       pub enough-moves : 3 * count-of b ≤ moves
       enough-moves = leb-true (3 * count-of b) moves (and-right (leb (b .names) heads) (leb (3 * count-of b) moves) (both .1))
 
+      -- the book that is built from is the book as written
+      pub building : Building s heads moves b b
+      building = record { written = ordered-read s b (accepted-passed s b built-accepted .ordered); source = e }
+
+-- one book is written, and its tables are built from one
+pub building-one : {s : List ℕ} {heads moves : ℕ} {b d b′ d′ : Book} → Building s heads moves b d → Building s heads moves b′ d′ → (b ≡ b′) × (d ≡ d′)
+building-one p q = (ok-injective _ _ (sym (p .written) ∙ q .written), ok-injective _ _ (sym (p .source) ∙ q .source))
+
 -- no more than 64 heads and 15,360 moves are needed: tables lent so long serve as longer ones do
 pub built-enough : (heads moves heads′ moves′ : ℕ) → ((n : ℕ) → n ≤ 64 → leb n heads ≡ leb n heads′)
     → ((n : ℕ) → n ≤ 15360 → leb n moves ≡ leb n moves′) → (s : List ℕ) → built s heads moves ≡ built s heads′ moves′
-unfolding built
-built-enough heads moves heads′ moves′ f g s = by-result (accepted s) refl
+built-enough heads moves heads′ moves′ f g s =
+    built-then s heads moves ∙ by-result (accepted s) refl ∙ sym (built-then s heads′ moves′)
   where
     by-result : (r : Result Book) → accepted s ≡ r → and-then r (lent heads moves) ≡ and-then r (lent heads′ moves′)
     by-result (refused c v) e = refl

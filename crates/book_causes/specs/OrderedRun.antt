@@ -1,7 +1,7 @@
 -- The gathering of the order as a loop runs it, rule by rule, and what a book that passes causes 1 to 8 is.
 use mathlib.Core.Bool.{Bool, true, false, not}
 use mathlib.Core.List.{List, [], _∷_}
-use mathlib.Core.Path.{_≡_, refl, ap, _∙_}
+use mathlib.Core.Path.{_≡_, refl, sym, ap, _∙_}
 use Prim.Native.Nat.{ℕ, suc, _+_, _<_, _≤_}
 use native.Mathlib.Numerals.{add-one}
 use lib.ListN.{length, getD, take, drop, drop-of-length-le}
@@ -11,10 +11,10 @@ use Rattle.order.specs.Closure.{no-order, with-rule, clashes}
 use Rattle.order.specs.ClosureLaws.{Closed, closed-none, closed-with}
 use Rattle.base.specs.Result.{Result, and-then, map-result}
 use Rattle.base.specs.Result.Result.{refused, ok}
-use Rattle.base.specs.ResultLaws.{refused-ok, ok-injective, demand-rest}
-use Rattle.book_format.specs.Format.{read}
+use Rattle.base.specs.ResultLaws.{refused-ok, ok-injective, and-then-assoc, demand-rest}
+use Rattle.book_format.specs.Format.{decode, distinct-book, read}
 use Rattle.book_format.specs.ReadLaws.{rules-some}
-use Rattle.book_causes.specs.Ordered.{order-from, ordered, Judged}
+use Rattle.book_causes.specs.Ordered.{order-from, order-book, ordered, Judged}
 use Rattle.book_causes.specs.OrderedLaws.{judged}
 
 -- the first k rules gave an order, and the whole gathering is the one from rule k on
@@ -51,34 +51,35 @@ module _ (b : Book) (k : ℕ) (lower : ℕ → ℕ → Bool) (g : Gathering b k 
     gathering-closed = rw (take-all k (b .rules) h) at (g .closed)
 
 -- causes 1 to 8, for a well-formed book
-pub ordered-from : (s : List ℕ) (b : Book) → read s ≡ ok b → ordered s ≡ order-from b no-order 0 (b .rules)
-unfolding ordered
-ordered-from s b h = rw h refl
+ordered-then : (s : List ℕ) → ordered s ≡ and-then (read s) order-book
+unfolding ordered read
+ordered-then s = sym (and-then-assoc (decode s) distinct-book order-book)
+
+pub ordered-from : (s : List ℕ) (b : Book) → read s ≡ ok b → ordered s ≡ order-book b
+ordered-from s b h = ordered-then s ∙ rw h refl
 
 pub ordered-judged : (s : List ℕ) (b : Book) → read s ≡ ok b → Judged b (ordered s)
 ordered-judged s b h = rw (ordered-from s b h) (judged b (rules-some s b h))
 
 -- cause 8 keeps the book
-order-book : (b : Book) (lower : ℕ → ℕ → Bool) (k : ℕ) (ρs : List Rule) (d : Book) → order-from b lower k ρs ≡ ok d → b ≡ d
+order-keeps : (b : Book) (lower : ℕ → ℕ → Bool) (k : ℕ) (ρs : List Rule) (d : Book) → order-from b lower k ρs ≡ ok d → b ≡ d
 unfolding order-from
-order-book b lower k [] d h = ok-injective b d h
-order-book b lower k (ρ ∷ ρs) d h =
-    order-book b (with-rule lower ρ) (suc k) ρs d
+order-keeps b lower k [] d h = ok-injective b d h
+order-keeps b lower k (ρ ∷ ρs) d h =
+    order-keeps b (with-rule lower ρ) (suc k) ρs d
     (demand-rest (not (clashes lower ρ)) 8 k (order-from b (with-rule lower ρ) (suc k) ρs) d h)
 
 pub ordered-read : (s : List ℕ) (b : Book) → ordered s ≡ ok b → read s ≡ ok b
-unfolding ordered
-ordered-read s b h = by-result (read s) h
+ordered-read s b h = by-result (read s) (sym (ordered-then s) ∙ h)
   where
-    by-result : (r : Result Book) → and-then r (λ b. order-from b no-order 0 (b .rules)) ≡ ok b → r ≡ ok b
+    by-result : (r : Result Book) → and-then r order-book ≡ ok b → r ≡ ok b
     by-result (refused c v) e = absurd (refused-ok c v b e)
-    by-result (ok d) e = ap ok (order-book d no-order 0 (d .rules) b e)
+    by-result (ok d) e = ap ok (order-keeps d no-order 0 (d .rules) b e)
 
 -- what causes 1 to 7 refuse is refused so
 pub ordered-refused : {A : Type 0} (f : Book → A) (s : List ℕ) (c v : ℕ) → refused c v ≡ map-result f (read s) → ordered s ≡ refused c v
-unfolding ordered
-ordered-refused f s c v h = by-result (read s) h
+ordered-refused f s c v h = ordered-then s ∙ by-result (read s) h
   where
-    by-result : (r : Result Book) → refused c v ≡ map-result f r → and-then r (λ b. order-from b no-order 0 (b .rules)) ≡ refused c v
+    by-result : (r : Result Book) → refused c v ≡ map-result f r → and-then r order-book ≡ refused c v
     by-result (refused c′ v′) e = cc
     by-result (ok b) e = absurd (refused-ok c v (f b) e)

@@ -76,6 +76,10 @@ unfoldable pub distinct : (names : ℕ) → List Rule → List Rule → Result B
 distinct n earlier [] = ok (record { names = n; rules = earlier })
 distinct n earlier (ρ ∷ later) = demand (not (repeats ρ earlier)) 7 (length earlier) (distinct n (earlier ++ (ρ ∷ [])) later)
 
+-- the same of a book, wherever it comes from
+abbrev pub distinct-book : Book → Result Book
+distinct-book b = distinct (b .names) [] (b .rules)
+
 -- causes 1 to 7: the well-formed book that the bytes are, or the first refusal met
 unfoldable pub read : List ℕ → Result Book
-read s = and-then (decode s) (λ b. distinct (b .names) [] (b .rules))
+read s = and-then (decode s) distinct-book

@@ -15,6 +15,7 @@ use Rattle.roles.specs.Rule.{Book}
 use Rattle.base.specs.Result.{Result}
 use Rattle.base.specs.Result.Result.{refused, ok}
 use Rattle.book_causes.specs.Accepted.{built}
+use Rattle.book_causes.specs.AcceptedLaws.{building}
 use Rattle.query_causes.specs.Query.{Answered}
 use Rattle.query_causes.specs.Input.{Broken, is-whole}
 use Rattle.query_correctness.specs.Reply.{Decided}
@@ -162,4 +163,4 @@ module _ {s h m line line′ : List ℕ} {o : Opening} (p : Opens s h m line lin
     where
       by-result : (x : Result Book) → built s 64 15360 ≡ x → Ran r
       by-result (refused c v) e = absurd (true≢false (sym f ∙ p .accepted ∙ ap is-ok e))
-      by-result (ok b) e = opened s b e (by-book b e t)
+      by-result (ok b) e = opened s b b (building s 64 15360 b e) (by-book b e t)

@@ -11,7 +11,7 @@ use Rattle.words.specs.Word.{word}
 use Rattle.words.specs.WordLaws.{word-drop}
 use Rattle.base.specs.Result.Result.{refused}
 use Rattle.query_causes.specs.Query.{query, Answered}
-use Rattle.query_causes.specs.Query.Answered.{refuses}
+use Rattle.base.specs.Decision.Decision.{refuses}
 use Rattle.query_causes.specs.Input.{links-of, Broken}
 use Rattle.query_checker.specs.Question.{cause-of}
 use Rattle.query_checker.specs.declared.refusal.QueryRefusal.{QueryRefusal}

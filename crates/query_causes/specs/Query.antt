@@ -2,7 +2,6 @@
 -- need not have given them.
 use mathlib.Core.Bool.{Bool, true, false, _&&_}
 use mathlib.Core.List.{List, [], _∷_}
-use mathlib.Core.Path.{_≡_}
 use Prim.Native.Nat.{ℕ, _+_, _%_}
 use lib.Dec.{leb, eqb}
 use lib.ListN.{length, getD}
@@ -10,7 +9,8 @@ use Rattle.roles.specs.Role.{Chain, name, polarity, turn}
 use Rattle.tables.specs.Tables.{Transition}
 use Rattle.tables.specs.Path.{Path}
 use Rattle.base.specs.Result.{Result, demand}
-use Rattle.base.specs.Result.Result.{refused, ok}
+use Rattle.base.specs.Result.Result.{ok}
+use Rattle.base.specs.Decision.{Decision}
 use Rattle.book_format.specs.Format.{named}
 
 -- the transitions that numbers spell, three for each; one or two numbers at the end spell none
@@ -57,7 +57,5 @@ abbrev pub Accepts : (heads moves : List ℕ) → ℕ → Chain → Type 0
 Accepts heads moves r w = Path (transitions-in moves) (getD heads (name r) 0) (asked r w) (getD heads (name r) 0 + 1)
 
 -- the answer to a question: the first refusal met; else yes, exactly where such a path exists
-pub data Answered (heads moves : List ℕ) (r : ℕ) (w : Chain) : Result Bool → Type 0 where
-  refuses : (cause value : ℕ) → query heads moves r w ≡ refused cause value → Answered heads moves r w (refused cause value)
-  yes : query heads moves r w ≡ ok tt → Accepts heads moves r w → Answered heads moves r w (ok true)
-  no : query heads moves r w ≡ ok tt → (Accepts heads moves r w → ⊥) → Answered heads moves r w (ok false)
+abbrev pub Answered : (heads moves : List ℕ) → ℕ → Chain → Result Bool → Type 0
+Answered heads moves r w = Decision (query heads moves r w) (Accepts heads moves r w)

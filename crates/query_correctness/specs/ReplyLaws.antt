@@ -16,12 +16,11 @@ use Rattle.book_format.specs.DecodeLaws.{decoded}
 use Rattle.book_format.specs.ReadLaws.{read-decode}
 use Rattle.book_causes.specs.OrderedRun.{ordered-read}
 use Rattle.book_causes.specs.Accepted.{heads-of, moves-of, built}
-use Rattle.book_causes.specs.AcceptedLaws.{accepted-passed, built-accepted}
+use Rattle.book_causes.specs.AcceptedLaws.{accepted-passed, built-accepted, building}
 use Rattle.query_causes.specs.Query.{chain-fits, question, Answered}
-use Rattle.query_causes.specs.Query.Answered.{refuses as refused-by-tables, yes as yes-by-tables, no as no-by-tables}
 use Rattle.query_correctness.specs.Answers.{query-question, accepts-derives}
 use Rattle.query_correctness.specs.Reply.{Decided, Replied, posed}
-use Rattle.query_correctness.specs.Reply.Decided.{refuses, yes, no}
+use Rattle.base.specs.Decision.Decision.{refuses, yes, no}
 use Rattle.query_correctness.specs.Reply.Replied.{refuses as refused-by-book, settled}
 
 -- a role that a question passes for
@@ -32,11 +31,11 @@ own-role n r w h =
 module _ (s : List ℕ) (heads moves : ℕ) (b : Book) (e : built s heads moves ≡ ok b) where
   -- what tables answer, derivation decides
   pub decided : (r : ℕ) (w : Chain) (a : Result Bool) → Answered (heads-of b) (moves-of b) r w a → Decided b r w a
-  decided r w _ (refused-by-tables c v h) = refuses c v (sym (query-question s heads moves b e r w) ∙ h)
-  decided r w _ (yes-by-tables h path) =
+  decided r w _ (refuses c v h) = refuses c v (sym (query-question s heads moves b e r w) ∙ h)
+  decided r w _ (yes h path) =
       let q = sym (query-question s heads moves b e r w) ∙ h in
       yes q (accepts-derives s heads moves b e r (own-role (b .names) r w q) w .0 path)
-  decided r w _ (no-by-tables h none) =
+  decided r w _ (no h none) =
       let q = sym (query-question s heads moves b e r w) ∙ h in
       no q (λ d. none (accepts-derives s heads moves b e r (own-role (b .names) r w q) w .1 d))
 
@@ -73,4 +72,4 @@ module _ (s : List ℕ) (heads moves : ℕ) where
         where
           by-result : (t : Result Book) → built s heads moves ≡ t → Replied s heads moves r w (and-then t (λ _. refused c v))
           by-result (refused d u) e = refused-by-book d u e
-          by-result (ok b) e = settled b (refused c v) e (refuses c v (own-question b e ∙ h))
+          by-result (ok b) e = settled b b (refused c v) (building s heads moves b e) (refuses c v (own-question b e ∙ h))

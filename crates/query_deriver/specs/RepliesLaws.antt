@@ -9,7 +9,7 @@ use Rattle.roles.specs.Rule.{Book}
 use Rattle.base.specs.Result.{Result, and-then}
 use Rattle.base.specs.Result.Result.{refused, ok}
 use Rattle.book_causes.specs.Accepted.{heads-of, moves-of, built, written}
-use Rattle.book_causes.specs.AcceptedLaws.{built-enough}
+use Rattle.book_causes.specs.AcceptedLaws.{built-enough, building}
 use Rattle.query_causes.specs.Query.{question, Answered}
 use Rattle.query_correctness.specs.Reply.{posed}
 use Rattle.query_correctness.specs.Reply.Replied.{refuses, settled}
@@ -81,7 +81,7 @@ module _ (s h m h′ m′ : List ℕ) where
         let moves = written-moves s h m h′ m′ c p in
         let tables : Answered (heads-of (book .book)) (moves-of (book .book)) r w (says a) = rw (heads, moves) at t in
         record {
-          answer = settled (book .book) (says a) (book .accepts) (decided s (length h) (length m) (book .book) (book .accepts) r w (says a) tables);
+          answer = settled (book .book) (book .book) (says a) (building s (length h) (length m) (book .book) (book .accepts)) (decided s (length h) (length m) (book .book) (book .accepts) r w (says a) tables);
           heads = rw put-to (p .heads);
           moves = rw put-to (p .moves);
         }

@@ -16,7 +16,7 @@ use Rattle.tables.specs.Path.Path.{stop, skip, read}
 use Rattle.base.specs.Result.{Result, map-result}
 use Rattle.base.specs.Result.Result.{refused, ok}
 use Rattle.query_causes.specs.Query.{transitions-in, query, asked, Answered}
-use Rattle.query_causes.specs.Query.Answered.{refuses, yes, no}
+use Rattle.base.specs.Decision.Decision.{refuses, yes, no}
 use Rattle.base.specs.Every.{Every, every-nil, every-cons, every-append, every-if}
 use Rattle.starred_examples.specs.Checks.{all-every, among, among-member, member-among, same-answer, same-answer-sound}
 use Rattle.starred_examples.specs.PathSearch.{predecessors, closure, closed, starts, exhaustive, head, all-found, found, answers}

@@ -17,6 +17,7 @@ use Rattle.book_format.specs.Format.{front, named, one-rule, rules-from, decode
 use Rattle.book_causes.specs.Ordered.{order-from, ordered}
 use Rattle.book_causes.specs.Accepted.{heads-of, moves-of, fitting, built, written}
 use Rattle.query_causes.specs.Query.{transitions-in, heads-fit, transitions-fit, tables-fit, query, asked, Answered}
+use Rattle.book_causes.specs.AcceptedLaws.{building}
 use Rattle.query_correctness.specs.Reply.{Decided, Replied}
 use Rattle.query_correctness.specs.Reply.Replied.{refuses, settled}
 use Rattle.query_correctness.specs.ReplyLaws.{decided}
@@ -45,7 +46,7 @@ replies-replied s q = by-result (built s 64 15360) refl
     by-result (refused c v) e h =
         subst (Replied s 64 15360 (q .role) (q .chain)) (same-answer-sound (refused c v) (q .answer) h) (refuses c v e)
     by-result (ok b) e h =
-        settled b (q .answer) e
+        settled b b (q .answer) (building s 64 15360 b e)
         (decided s 64 15360 b e (q .role) (q .chain) (q .answer)
         (answers-answered (heads-of b) (moves-of b) (q .role) (q .chain) (q .answer) h))
 
@@ -68,7 +69,7 @@ writes-session s q out = by-result (built s 64 15360) refl
         let sure : Bool = searched (heads-of b) (moves-of b) fuel q in
         let same : Bool = same-chain (first-line (ok (counts b)) ++ made) out in
         subst (Session s q) (same-chain-sound (first-line (ok (counts b)) ++ made) out (and-right sure same h))
-        (served b made e
+        (served b b made (building s 64 15360 b e)
         (transcript-map (Answered (heads-of b) (moves-of b)) (Decided b) (decided s 64 15360 b e) 0 q made
         (lines-transcript (heads-of b) (moves-of b) fuel 0 q (and-left sure same h))))
 

@@ -12,6 +12,7 @@ use Rattle.roles.specs.Rule.{Book}
 use Rattle.base.specs.Result.{Result}
 use Rattle.base.specs.Result.Result.{ok}
 use Rattle.book_causes.specs.Accepted.{states-of, count-of, built}
+use Rattle.book_causes.specs.AcceptedLaws.{building}
 use Rattle.query_causes.specs.Input.{links-of, Whole, Broken}
 use Rattle.query_correctness.specs.Reply.{Decided}
 use Rattle.transcript_lines.specs.Lines.{first-line, answer-line}
@@ -98,7 +99,7 @@ pub session-blocks : (s : List ℕ) (b : Book) → built s 64 15360 ≡ ok b →
     → Blocks (Decided b) 0 [] blocks lines k kept → Broken kept
     → Session s (joined blocks) (first-line (ok (states-of b, count-of b)) ++ (lines ++ ending k kept))
 session-blocks s b e {k} {lines} {kept} bs h =
-    served b (lines ++ ending k kept) e (blocks-complete bs (ending k kept) (transcript-ending k kept h))
+    served b b (lines ++ ending k kept) (building s 64 15360 b e) (blocks-complete bs (ending k kept) (transcript-ending k kept h))
 
 -- numbers go on, and a whole question with room and a number is answered
 module _ {Says : ℕ → Chain → Result Bool → Type 0} where

@@ -8,8 +8,9 @@ use Rattle.roles.specs.Role.{Chain}
 use Rattle.roles.specs.Rule.{Book}
 use Rattle.base.specs.Result.{Result}
 use Rattle.base.specs.Result.Result.{refused, ok}
-use Rattle.base.specs.ResultLaws.{refused-ok, ok-injective}
+use Rattle.base.specs.ResultLaws.{refused-ok}
 use Rattle.book_causes.specs.Accepted.{states-of, count-of}
+use Rattle.book_causes.specs.AcceptedLaws.{building-one}
 use Rattle.query_correctness.specs.Reply.{Decided}
 use Rattle.query_correctness.specs.OneReply.{decided-one}
 use Rattle.transcript_lines.specs.Lines.{first-line, answer-line}
@@ -54,9 +55,9 @@ session-one s q _ _ (refuses c v h) (refuses d u g) =
     let cause : c ≡ d = cc in
     let value : v ≡ u = cc in
     rw (cause, value) refl
-session-one s q _ _ (refuses c v h) (served b lines g t) = absurd (refused-ok c v b (sym h ∙ g))
-session-one s q _ _ (served b lines h t) (refuses c v g) = absurd (refused-ok c v b (sym g ∙ h))
-session-one s q _ _ (served b lines h t) (served b′ lines′ g t′) =
-    let same : b′ ≡ b = ok-injective b′ b (sym g ∙ h) in
-    let rest : lines ≡ lines′ = transcript-one (Decided b) (decided-one b) 0 q lines lines′ t (rw same at t′) in
-    ap₂ (λ (x : Book) (l : List ℕ). first-line (ok (states-of x, count-of x)) ++ l) (sym same) rest
+session-one s q _ _ (refuses c v h) (served b d lines g t) = absurd (refused-ok c v d (sym h ∙ g .source))
+session-one s q _ _ (served b d lines h t) (refuses c v g) = absurd (refused-ok c v d (sym g ∙ h .source))
+session-one s q _ _ (served b d lines h t) (served b′ d′ lines′ g t′) =
+    let same = building-one h g in
+    let rest : lines ≡ lines′ = transcript-one (Decided b) (decided-one b) 0 q lines lines′ t (rw (← same .0) at t′) in
+    ap₂ (λ (x : Book) (l : List ℕ). first-line (ok (states-of x, count-of x)) ++ l) (same .1) rest

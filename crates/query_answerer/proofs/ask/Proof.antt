@@ -1,7 +1,7 @@
 -- `ask` meets its contract: `check` settles causes 12 to 14, and a question that passes them is decided by `accepts`.
 use mathlib.Core.Path.{sym, ap, _∙_}
 use borrow.Author.Tests.{not-true, not-false}
-use Rattle.query_causes.specs.Query.Answered.{refuses, yes as answered-yes, no as answered-no}
+use Rattle.base.specs.Decision.Decision.{refuses, yes as answered-yes, no as answered-no}
 use Rattle.query_checker.specs.Question.{says as found}
 use borrow.Author.Needs.{needs}
 use Rattle.query_answerer.proofs.ask.Statement.{statement}

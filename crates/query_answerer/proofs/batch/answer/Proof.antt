@@ -2,7 +2,7 @@
 use mathlib.Core.Path.{sym, ap, _∙_}
 use native.Mathlib.Omega.{arith}
 use borrow.Author.Needs.{needs}
-use Rattle.query_causes.specs.Query.Answered.{yes as answered-yes, no as answered-no}
+use Rattle.base.specs.Decision.Decision.{yes as answered-yes, no as answered-no}
 use Rattle.query_simulation.specs.QueryLaws.{query-tables, query-question, fitting, named-role, letters}
 use Rattle.query_simulation.specs.StatesLaws.{unused-later}
 use Rattle.query_simulation.specs.TablesLaws.{tables}
