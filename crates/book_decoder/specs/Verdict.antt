@@ -3,7 +3,7 @@ use lib.ListN.{length}
 use Rattle.roles.specs.Rule.{Book}
 use Rattle.base.specs.Result.{Result}
 use Rattle.base.specs.Result.Result.{refused, ok}
-use Rattle.book_decoder.specs.declared.verdict.Header.{Header}
+use Rattle.book_header.specs.declared.Header.{Header}
 use Rattle.book_decoder.specs.declared.verdict.Verdict.{Verdict}
 use Rattle.book_decoder.specs.declared.verdict.Verdict.the-variants.{WellFormed, Refused}
 use Rattle.refusals.specs.Refusal.{cause-of, value-of}

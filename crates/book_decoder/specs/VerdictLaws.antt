@@ -12,7 +12,7 @@ use Rattle.base.specs.Result.Result.{refused, ok}
 use Rattle.book_format.specs.Format.{decode, distinct, read}
 use Rattle.book_format.specs.Place.{has-rule, whole-at, rule-place, first-rules}
 use Rattle.book_format.specs.DecodeLaws.{Decoded, decoded}
-use Rattle.book_decoder.specs.declared.verdict.Header.{Header}
+use Rattle.book_header.specs.declared.Header.{Header}
 use Rattle.book_decoder.specs.Verdict.{header-of}
 
 -- whether a book has a rule k, by what the verdict says

@@ -3,10 +3,9 @@ ghost use mathlib.Core.List.{[], _∷_};
 ghost use mathlib.Core.Path.{_≡_};
 ghost use Prim.Native.Nat.{_+_, _<_, _≤_};
 ghost use lib.Dec.{leb};
-ghost use lib.ListN.{length, take, drop};
-ghost use Rattle.roles.specs.Role.{same-chain};
+ghost use lib.ListN.{length, drop};
 ghost use Rattle.base.specs.Result.{map-result};
-ghost use Rattle.book_format.specs.Format.{rules-from, named, size-fits, version-fits, counts-fit};
+ghost use Rattle.book_format.specs.Format.{rules-from, named};
 ghost use Rattle.book_format.specs.Format.{decode as decode-of};
 ghost use Rattle.refusals.specs.Check.{check};
 ghost use Rattle.book_decoder.specs.Verdict.{header-of, says};
@@ -17,30 +16,26 @@ mod verdict;
 use book_cursor::Cursor;
 use book_cursor::Entry;
 use book_cursor::Step;
+pub use book_header::Header;
 use refusals::Check;
 use refusals::Refusal;
-pub use verdict::Header;
 pub use verdict::Verdict;
-use words::word;
 
 // Causes 1 to 6, in one pass.
 pub fn decode(book: &[u8]) -> Verdict
     ensures { λ r. ⌜ says r ≡ map-result header-of (decode-of (now (book .entry))) ⌝ }
 {
-    let Check::Passed = sized(book) else {
+    let Check::Passed = book_header::sized(book, 2568) else {
         return Verdict::Refused(Refusal::Size);
     };
-    let Check::Passed = begins_with(book, b"RLB") else {
+    let Check::Passed = book_header::marked(book) else {
         return Verdict::Refused(Refusal::Mark);
     };
-    let Check::Passed = versioned(book) else {
+    let Check::Passed = book_header::versioned(book, 1) else {
         return Verdict::Refused(Refusal::Version);
     };
-    let header = Header {
-        names: book[5] as usize,
-        rules: word(book, 6),
-    };
-    let Check::Passed = ranged(header) else {
+    let header = book_header::declared(book);
+    let Check::Passed = book_header::ranged(header) else {
         return Verdict::Refused(Refusal::Range);
     };
     decode_rules(book, header)
@@ -69,62 +64,6 @@ fn decode_rules(book: &[u8], header: Header) -> Verdict
         return Verdict::Refused(Refusal::Malformed(rules));
     };
     Verdict::WellFormed(header)
-}
-
-// Cause 1: the number of bytes.
-fn sized(book: &[u8]) -> Check
-    ensures { λ r. ⌜ r ≡ check (size-fits (now (book .entry))) ⌝ }
-{
-    if book.len() < 8 {
-        return Check::Failed;
-    }
-    if 2568 < book.len() {
-        return Check::Failed;
-    }
-    Check::Passed
-}
-
-// Whether the book's first bytes are the mark's.
-fn begins_with(book: &[u8], mark: &[u8]) -> Check
-    requires { ⌜ length (now mark) ≤ length (now book) ⌝ }
-    ensures { λ r. ⌜ r ≡ check (same-chain (take (length (now (mark .entry))) (now (book .entry))) (now (mark .entry))) ⌝ }
-{
-    let mut i = 0;
-    while i < mark.len() {
-        if book[i] != mark[i] {
-            return Check::Failed;
-        }
-        i += 1;
-    }
-    Check::Passed
-}
-
-// Cause 3: version 1.
-fn versioned(book: &[u8]) -> Check
-    ensures { λ r. ⌜ r ≡ check (version-fits (now (book .entry))) ⌝ }
-{
-    if word(book, 3) != 1 {
-        return Check::Failed;
-    }
-    Check::Passed
-}
-
-// Cause 4: 1 to 64 names and at most 256 rules.
-fn ranged(header: Header) -> Check
-    ensures { λ r. ⌜ r ≡ check (counts-fit (header .names) (header .rules)) ⌝ }
-{
-    let names = header.names;
-    let rules = header.rules;
-    if names < 1 {
-        return Check::Failed;
-    }
-    if 64 < names {
-        return Check::Failed;
-    }
-    if 256 < rules {
-        return Check::Failed;
-    }
-    Check::Passed
 }
 
 // Passed where the book declares the names of all of the rule's roles.

@@ -1,11 +1,6 @@
 // What a byte string is.
+use book_header::Header;
 use refusals::Refusal;
-
-// What a book's first eight bytes declare.
-pub struct Header {
-    pub names: usize,
-    pub rules: usize,
-}
 
 // A well-formed book with its header, or refused.
 pub enum Verdict {

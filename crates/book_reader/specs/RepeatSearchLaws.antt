@@ -15,7 +15,7 @@ use Rattle.book_format.specs.Place.{rule-at, rule-place, first-rules}
 use Rattle.book_format.specs.RepeatLaws.{repeats-next, Searching, searching-start, searching-next, searching-found}
 use Rattle.rule_keys.specs.Key.{key, Short}
 use Rattle.rule_keys.specs.KeyLaws.{same-key}
-use Rattle.book_decoder.specs.declared.verdict.Header.{Header}
+use Rattle.book_header.specs.declared.Header.{Header}
 use Rattle.book_reader.specs.Entered.{Entered, among}
 use Rattle.book_reader.specs.EnteredLaws.{entered-none}
 use Rattle.book_reader.specs.ShortLaws.{Bounded}

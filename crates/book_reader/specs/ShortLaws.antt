@@ -21,7 +21,7 @@ use Rattle.rule_keys.specs.Key.{code, canonical, key, Small, Short}
 use Rattle.book_cursor.specs.declared.Entry.{Entry}
 use Rattle.book_cursor.specs.Cursor.{entry-rule}
 use Rattle.book_cursor.specs.CursorLaws.{entry-part}
-use Rattle.book_decoder.specs.declared.verdict.Header.{Header}
+use Rattle.book_header.specs.declared.Header.{Header}
 use Rattle.book_decoder.specs.Verdict.{header-of}
 
 -- a whole rule over at most 64 names is short

@@ -14,7 +14,7 @@ use Rattle.base.specs.Result.{Result, map-result}
 use Rattle.base.specs.Result.Result.{refused, ok}
 use Rattle.book_format.specs.Format.{read}
 use Rattle.book_causes.specs.Ordered.{ordered, Judged}
-use Rattle.book_decoder.specs.declared.verdict.Header.{Header}
+use Rattle.book_header.specs.declared.Header.{Header}
 use Rattle.book_decoder.specs.Verdict.{header-of, says}
 use Rattle.order_checker.specs.declared.Gathered.{Gathered}
 use Rattle.order_checker.specs.declared.Gathered.the-variants.{Extends, Clash}

@@ -20,7 +20,7 @@ use Rattle.book_causes.specs.Ordered.{ordered}
 use Rattle.book_causes.specs.OrderedRun.{Gathering, gathering-start, gathering-next, gathering-clash, gathering-end, gathering-closed, ordered-from, ordered-read}
 use Rattle.book_cursor.specs.declared.Cursor.{Cursor}
 use Rattle.book_cursor.specs.declared.Entry.{Entry}
-use Rattle.book_decoder.specs.declared.verdict.Header.{Header}
+use Rattle.book_header.specs.declared.Header.{Header}
 use Rattle.book_cursor.specs.Cursor.{entry-rule}
 use Rattle.book_cursor.specs.CursorLaws.{AtRule, entry-part}
 use Rattle.book_decoder.specs.Verdict.{header-of}

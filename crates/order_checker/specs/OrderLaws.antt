@@ -12,7 +12,7 @@ use Rattle.base.specs.ResultLaws.{refused-ok}
 use Rattle.book_format.specs.ReadLaws.{read-names, read-few-names, named-name, named-member, rules-named}
 use Rattle.book_causes.specs.Ordered.{ordered}
 use Rattle.book_causes.specs.OrderedRun.{ordered-judged, ordered-read}
-use Rattle.book_decoder.specs.declared.verdict.Header.{Header}
+use Rattle.book_header.specs.declared.Header.{Header}
 use Rattle.book_decoder.specs.declared.verdict.Verdict.{Verdict}
 use Rattle.book_decoder.specs.Verdict.{header-of, says}
 use Rattle.order_checker.specs.Gather.{Gathered-order, Levels, Ordered}

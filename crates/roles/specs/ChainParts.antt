@@ -5,7 +5,7 @@ use mathlib.Core.Path.{_≡_, sym, ap, _∙_}
 use Prim.Native.Nat.{ℕ, _+_, _<_, _≤_}
 use native.Mathlib.Omega.{arith}
 use lib.ListN.{length, getD, take}
-use lib.Seq.{getD-take, ext-getD, length-take-le}
+use lib.Seq.{getD-take, ext-getD, length-take-le, take-all}
 use Rattle.roles.specs.Role.{Chain, same-chain}
 use Rattle.roles.specs.RoleLaws.{same-chain-complete, same-chain-differ}
 
@@ -26,3 +26,10 @@ module _ (s w : List ℕ) where
 
   pub prefix-differs : (k : ℕ) → k < length w → (getD s k 0 ≡ getD w k 0 → ⊥) → same-chain (take (length w) s) w ≡ false
   prefix-differs k p h = link-differs _ _ k (λ e. h (sym (getD-take (length w) s k 0 p) ∙ e))
+
+  pub prefix-short : length s < length w → same-chain (take (length w) s) w ≡ false
+  prefix-short h =
+      same-chain-differ _ _
+      (λ e.
+      let l : length s ≡ length w = ap length (sym (take-all (length w) s (omega arith)) ∙ e) in
+      absurd (let f : ⊥ = omega arith in f))

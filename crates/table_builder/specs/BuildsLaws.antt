@@ -15,7 +15,7 @@ use Rattle.book_causes.specs.OrderedRun.{ordered-read}
 use Rattle.book_causes.specs.AcceptedLaws.{accepted-refused, built-refused}
 use Rattle.rule_index.specs.RuleIndex.{Indexed, level-in}
 use Rattle.refusals.specs.declared.refusal.Refusal.{Refusal}
-use Rattle.book_decoder.specs.declared.verdict.Header.{Header}
+use Rattle.book_header.specs.declared.Header.{Header}
 use Rattle.book_decoder.specs.declared.verdict.Verdict.the-variants.{WellFormed, Refused}
 use Rattle.refusals.specs.Refusal.{cause-of, value-of}
 use Rattle.book_decoder.specs.Verdict.{header-of, says}

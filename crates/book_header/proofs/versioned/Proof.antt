@@ -3,8 +3,8 @@ use mathlib.Core.Path.{sym, ap, _∙_}
 use borrow.Author.Needs.{needs}
 use borrow.Author.Tests.{eq-eqb, ne-eqb}
 use Rattle.refusals.specs.Check.{check}
-use Rattle.book_decoder.proofs.versioned.Statement.{statement}
-use Rattle.book_decoder.proofs.versioned.Tie as tie
+use Rattle.book_header.proofs.versioned.Statement.{statement}
+use Rattle.book_header.proofs.versioned.Tie as tie
 
 word-requires : tie.Need-word-requires
 word-requires c κs = search needs

@@ -1,8 +1,8 @@
 -- `ranged` meets its contract: the three tests of cause 4.
 use native.Mathlib.Omega.{arith}
 use borrow.Author.Tests.{le-leb, lt-leb}
-use Rattle.book_decoder.proofs.ranged.Statement.{statement}
-use Rattle.book_decoder.proofs.ranged.Tie as tie
+use Rattle.book_header.proofs.ranged.Statement.{statement}
+use Rattle.book_header.proofs.ranged.Tie as tie
 
 returns : tie.Need-returns
 returns c = simp (lt-leb 1 (c .before .args .header .names) (omega arith))
