@@ -17,9 +17,6 @@ Inv-loop book names start size right i₀ i = (i ≤ size) × ((k : ℕ) → k <
 abbrev μ-loop : tie.MeasureT-loop
 μ-loop book names start size right i₀ i = size - i
 
-cast-right : tie.Need-cast-right Inv-loop μ-loop
-cast-right c = omega (arith, c .struct-known .given)
-
 returns : tie.Need-returns Inv-loop μ-loop
 unfolding entry-rule
 returns c = ap check (sym (named-right (c .before .before .args .names) (c .before .before .args .rule .right) (c .before .before .args .book .now) (c .before .before .args .rule .start) (c .before .before .args .rule .size) (c .if1 .taken)))
@@ -44,7 +41,7 @@ declared-spec =
     (tie.spec
     Inv-loop
     μ-loop
-    cast-right
+    (λ c. omega (arith, c .struct-known .given))
     (λ c. search needs)
     returns
     (λ c. search needs)

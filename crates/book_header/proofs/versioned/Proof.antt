@@ -6,9 +6,6 @@ use Rattle.refusals.specs.Check.{check}
 use Rattle.book_header.proofs.versioned.Statement.{statement}
 use Rattle.book_header.proofs.versioned.Tie as tie
 
-word-requires : tie.Need-word-requires
-word-requires c κs = search needs
-
 returns : tie.Need-returns
 returns c = ap check (sym (ne-eqb _ _ (λ e. c .if1 .taken (c .before .word .ensures ∙ e))))
 
@@ -16,4 +13,4 @@ returns-2 : tie.Need-returns-2
 returns-2 c = ap check (sym (eq-eqb _ _ (sym (c .before .word .ensures) ∙ c .if1 .left)))
 
 pub versioned-spec : {M : Type 1} → statement M
-versioned-spec = tie.close (tie.spec word-requires returns returns-2)
+versioned-spec = tie.close (tie.spec (λ c κs. search needs) returns returns-2)

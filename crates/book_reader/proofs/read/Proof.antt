@@ -6,12 +6,6 @@ use Rattle.book_decoder.specs.VerdictLaws.{read-refused}
 use Rattle.book_reader.proofs.read.Statement.{statement}
 use Rattle.book_reader.proofs.read.Tie as tie
 
-decode-requires : tie.Need-decode-requires
-decode-requires c κs = search needs
-
-enum-known-reading : tie.Need-enum-known-reading
-enum-known-reading c = search needs
-
 enum-told : tie.Need-enum-told
 enum-told c = search needs
 
@@ -21,10 +15,13 @@ returns c = ap says (c .enum-told .given .1) ∙ read-refused _ _ _ (sym (ap say
 distinct-requires : tie.Need-distinct-requires
 distinct-requires c κs = sym (sym (ap says (c .before .reading .given .1)) ∙ c .before .before .before .decode .ensures)
 
-returns-2 : tie.Need-returns-2
-returns-2 c = search needs
-
 pub read-spec : {M : Type 1} → statement M
 read-spec =
     tie.close
-    (tie.spec decode-requires enum-known-reading enum-told returns distinct-requires returns-2)
+    (tie.spec
+    (λ c κs. search needs)
+    (λ c. search needs)
+    enum-told
+    returns
+    distinct-requires
+    (λ c. search needs))

@@ -29,14 +29,8 @@ over-masked c = rw (c .name .ensures) (named-name _ _ _ (c .before .before .befo
 over-small : (c : tie.After-name) → c .name .result < 64
 over-small c = omega (arith, over-masked c, c .before .before .before .before .before .before .before .before .before .before .before .pre .1)
 
-has-requires : tie.Need-has-requires
-has-requires c κs = over-small c
-
 returns-2 : tie.Need-returns-2
 returns-2 c = added-clash _ _ _ (row-inner _ _ _ (c .before .before .before .before .before .before .before .before .before .before .shape-of .ensures) _ (c .before .before .before .before .before .before .before .before .row .given .1)) _ (c .before .before .before .reached .ensures) _ (c .before .before .name .ensures) (over-small (c .before .before)) _ (sym (c .before .has .ensures) ∙ c .if1 .taken)
-
-slice-read-below : tie.Need-slice-read-below
-slice-read-below c = over-masked (c .before .before .before)
 
 returns-3 : tie.Need-returns-3
 returns-3 c = added-known _ _ _ (row-inner _ _ _ (c .before .before .before .before .before .before .before .before .before .before .before .before .shape-of .ensures) _ (c .before .before .before .before .before .before .before .before .before .before .row .given .1)) _ (c .before .before .before .before .before .reached .ensures) _ (c .before .before .before .before .name .ensures) (over-small (c .before .before .before .before)) (sym (c .before .before .before .has .ensures) ∙ c .before .before .if1 .left) (c .if2 .taken)
@@ -61,11 +55,11 @@ add-rule-spec =
     reached-requires
     (λ c κs. search needs)
     (λ c. search needs)
-    has-requires
+    (λ c κs. over-small c)
     (λ c. search needs)
     returns-2
     (λ c. search needs)
-    slice-read-below
+    (λ c. over-masked (c .before .before .before))
     (λ c. search needs)
     returns-3
     absorb-requires

@@ -16,9 +16,6 @@ Inv-loop masks levels₀ x₀ levels x = (x ≤ length masks) × Counting masks 
 abbrev μ-loop : tie.MeasureT-loop
 μ-loop masks levels₀ x₀ levels x = length masks - x
 
-loop-holds : tie.Need-loop-holds Inv-loop μ-loop
-loop-holds c = (omega arith, counting-start _)
-
 cast-levels : tie.Need-cast-levels Inv-loop μ-loop
 cast-levels c = omega (arith, ones-le 64 _ (c .before .shared-slice-known .given (c .before .before .before .loop .x) .fits))
 
@@ -40,7 +37,7 @@ counted-spec =
     (tie.spec
     Inv-loop
     μ-loop
-    loop-holds
+    (λ c. (omega arith, counting-start _))
     (λ c. search needs)
     (λ c. search needs)
     cast-levels

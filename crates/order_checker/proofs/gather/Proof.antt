@@ -30,9 +30,6 @@ entry-at c = at-rule _ _ _ _ _ _ (c .before .before .before .before .loop .inv .
 add-end : tie.Need-add-end Inv-loop μ-loop
 add-end c = omega (arith, entry-at (c .before .before) .fits, c .before .before .before .before .before .before .before .before .before .before .good)
 
-part-add-rule-end : tie.Need-part-add-rule-end Inv-loop μ-loop
-part-add-rule-end c = entry-at (c .before .before) .fits
-
 add-rule-requires : tie.Need-add-rule-requires Inv-loop μ-loop
 add-rule-requires c κs = (rw (c .before .before .before .before .before .before .before .before .loop .inv .1 .1 .0) (named-rule _ _ (c .before .before .before .before .before .before .before .before .before .before .before .before .pre .0) (c .before .before .before .before .before .before .before .before .loop .number) (c .before .before .before .before .before .before .before .loop-test .taken) _ (handed-rule _ _ _ _ (entry-at (c .before .before .before .before)))), rw (c .before .before .before .before .before .before .before .before .loop .inv .1 .1 .0) (few-names _ _ (c .before .before .before .before .before .before .before .before .before .before .before .before .pre .0)))
 
@@ -70,7 +67,7 @@ gather-spec =
     add-end
     (λ c. search needs)
     (λ c. search needs)
-    part-add-rule-end
+    (λ c. entry-at (c .before .before) .fits)
     add-rule-requires
     (λ c. search needs)
     (λ c. search needs)

@@ -32,12 +32,6 @@ few c = few-names _ _ (ok-header c)
 as-many : (c : tie.After-known-told) → length {A = ℕ} (take (c .before .verdict .given .0 .0 .names) (replicate 64 0)) ≡ c .before .verdict .given .0 .0 .names
 as-many c = length-take-le _ (replicate 64 0) (few c)
 
-array-borrow-prefix-masks : tie.Need-array-borrow-prefix-masks
-array-borrow-prefix-masks c = few c
-
-slice-aggregate-gather : tie.Need-slice-aggregate-gather
-slice-aggregate-gather c = sym (as-many (c .before))
-
 gather-requires : tie.Need-gather-requires
 gather-requires c κs = (ok-header (c .before), (as-many (c .before), holds-front (c .before .before .verdict .given .0 .0 .names) (replicate 64 0) holds-none))
 
@@ -46,9 +40,6 @@ returns-2 c = order-refused _ _ (c .before .before .before .gather .ensures .0) 
 
 array-share-prefix-masks : tie.Need-array-share-prefix-masks
 array-share-prefix-masks c = rw (length-front {A = ℕ} (replicate 64 0) _ _ (c .before .before .before .gather .kept .1 .1 .0)) (few (c .before .before .before .before .before))
-
-slice-aggregate-counted : tie.Need-slice-aggregate-counted
-slice-aggregate-counted c = sym (length-take-le _ _ (array-share-prefix-masks (c .before)))
 
 counted-requires : tie.Need-counted-requires
 counted-requires c κs = rw (length-take-le _ _ (array-share-prefix-masks (c .before))) (few (c .before .before .before .before .before .before))
@@ -64,13 +55,13 @@ order-spec =
     (λ c. search needs)
     (λ c. search needs)
     returns
-    array-borrow-prefix-masks
-    slice-aggregate-gather
+    (λ c. few c)
+    (λ c. sym (as-many (c .before)))
     gather-requires
     (λ c. search needs)
     (λ c. search needs)
     returns-2
     array-share-prefix-masks
-    slice-aggregate-counted
+    (λ c. sym (length-take-le _ _ (array-share-prefix-masks (c .before))))
     counted-requires
     returns-3)

@@ -6,9 +6,6 @@ use Rattle.program.specs.RanLaws.{kept-short, some-room, reads-none, rea
 use Rattle.program.proofs.read_more.Statement.{statement}
 use Rattle.program.proofs.read_more.Tie as tie
 
-returns : tie.Need-returns
-returns c = reads-none (c .before .before .pre .1)
-
 read-once-requires : tie.Need-read-once-requires
 read-once-requires c κs =
     let broken = sym (c .before .before .before .pre .2) ∙ (c .before .if1 .left) in
@@ -22,7 +19,7 @@ pub read-more-spec : {M : Type 1} → statement M
 read-more-spec =
     tie.close
     (tie.spec
-    returns
+    (λ c. reads-none (c .before .before .pre .1))
     (λ c. search needs)
     (λ c. search needs)
     (λ c. search needs)

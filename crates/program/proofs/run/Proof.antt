@@ -7,15 +7,6 @@ use Rattle.program.specs.RanLaws.{ran-refused, ran-served}
 use Rattle.program.proofs.run.Statement.{statement}
 use Rattle.program.proofs.run.Tie as tie
 
-array-share-prefix-line : tie.Need-array-share-prefix-line
-array-share-prefix-line c = puts-counts (c .«open» .ensures .puts) .0
-
-slice-aggregate-write-all : tie.Need-slice-aggregate-write-all
-slice-aggregate-write-all c = puts-counts (c .before .«open» .ensures .puts) .1
-
-returns : tie.Need-returns
-returns c = unwritten
-
 returns-2 : tie.Need-returns-2
 returns-2 c = ran-refused (c .before .before .before .before .before .«open» .ensures) (not-true _ (c .if2 .taken))
 
@@ -31,10 +22,10 @@ run-spec =
     (λ c. search needs)
     (λ c. search needs)
     (λ c κs. search needs)
-    array-share-prefix-line
-    slice-aggregate-write-all
+    (λ c. puts-counts (c .«open» .ensures .puts) .0)
+    (λ c. puts-counts (c .before .«open» .ensures .puts) .1)
     (λ c κs. search needs)
-    returns
+    (λ c. unwritten)
     returns-2
     (λ c κs. search needs)
     returns-3)

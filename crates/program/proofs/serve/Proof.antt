@@ -34,14 +34,8 @@ finish-requires c κs = rw (c .before .before .before .before .read-more .ensure
 returns : tie.Need-returns Inv-loop μ-loop
 returns c = serving-ends (c .before .before .before .before .before .before .before .before .before .loop .inv .3) (c .before .before .before .ended .ensures .over (c .before .before .if2 .taken) .0) (c .finish .ensures)
 
-array-share-prefix-out : tie.Need-array-share-prefix-out Inv-loop μ-loop
-array-share-prefix-out c = puts-counts (c .before .before .answer-block .ensures .puts) .0
-
 slice-aggregate-write-all : tie.Need-slice-aggregate-write-all Inv-loop μ-loop
 slice-aggregate-write-all c = puts-counts (c .before .before .before .answer-block .ensures .puts) .1
-
-returns-2 : tie.Need-returns-2 Inv-loop μ-loop
-returns-2 c = unwritten
 
 loop-again : tie.Need-loop-again Inv-loop μ-loop
 loop-again c =
@@ -57,9 +51,6 @@ loop-again c =
 
 returns-3 : tie.Need-returns-3 Inv-loop μ-loop
 returns-3 c = serving-exhausted (c .before .before .loop .inv .3) (inr (search needs))
-
-returns-4 : tie.Need-returns-4 Inv-loop μ-loop
-returns-4 c = serving-exhausted (c .before .loop .inv .3) (inl (search needs))
 
 pub serve-spec : {M : Type 1} → statement M
 serve-spec =
@@ -78,12 +69,12 @@ serve-spec =
     (λ c. search needs)
     (λ c. search needs)
     (λ c κs. search needs)
-    array-share-prefix-out
+    (λ c. puts-counts (c .before .before .answer-block .ensures .puts) .0)
     slice-aggregate-write-all
     (λ c κs. search needs)
-    returns-2
+    (λ c. unwritten)
     (λ c. search needs)
     (λ c. search needs)
     loop-again
     returns-3
-    returns-4)
+    (λ c. serving-exhausted (c .before .loop .inv .3) (inl (search needs))))

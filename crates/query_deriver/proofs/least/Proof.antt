@@ -6,11 +6,8 @@ use borrow.Author.Tests.{le-leb}
 use Rattle.query_deriver.proofs.least.Statement.{statement}
 use Rattle.query_deriver.proofs.least.Tie as tie
 
-returns : tie.Need-returns
-returns c = search needs
-
 returns-2 : tie.Need-returns-2
 returns-2 c = (omega arith, λ n l. le-leb n _ l ∙ sym (le-leb n _ (omega arith)))
 
 pub least-spec : {M : Type 1} → statement M
-least-spec = tie.close (tie.spec returns returns-2)
+least-spec = tie.close (tie.spec (λ c. search needs) returns-2)

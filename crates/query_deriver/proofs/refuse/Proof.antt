@@ -7,12 +7,6 @@ use Rattle.query_deriver.specs.RepliesLaws.{says-book, says-question}
 use Rattle.query_deriver.proofs.refuse.Statement.{statement}
 use Rattle.query_deriver.proofs.refuse.Tie as tie
 
-slice-aggregate-build : tie.Need-slice-aggregate-build
-slice-aggregate-build c = sym (length-take-le _ _ (omega arith))
-
-slice-aggregate-build-2 : tie.Need-slice-aggregate-build-2
-slice-aggregate-build-2 c = sym (length-take-le _ _ (omega arith))
-
 returns : tie.Need-returns
 returns c = says-book _ _ _ _ _ (c .before .before .before .before .before .before .before .before .before .before .before .args .heads) (c .before .before .before .before .before .before .before .before .before .before .before .args .moves) _ _ (length-take-le _ _ (omega arith)) (length-take-le _ _ (omega arith)) (c .before .before .before .before .before .before .before .before .before .least .ensures .1) (c .before .before .before .before .before .before .before .before .least2 .ensures .1) (c .before .before .before .before .before .before .before .before .before .before .before .args .refusal) _ (rw (c .before .outcome .given .1) at (c .before .before .before .before .before .build .ensures))
 
@@ -26,9 +20,9 @@ refuse-spec =
     (λ c κs. search needs)
     (λ c κs. search needs)
     (λ c. search needs)
-    slice-aggregate-build
+    (λ c. sym (length-take-le _ _ (omega arith)))
     (λ c. search needs)
-    slice-aggregate-build-2
+    (λ c. sym (length-take-le _ _ (omega arith)))
     (λ c κs. search needs)
     (λ c. search needs)
     (λ c. search needs)

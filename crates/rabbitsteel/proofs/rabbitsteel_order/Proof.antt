@@ -7,14 +7,8 @@ use Rattle.book_decoder.specs.Verdict.{header-of}
 use Rattle.rabbitsteel.proofs.rabbitsteel_order.Statement.{statement}
 use Rattle.rabbitsteel.proofs.rabbitsteel_order.Tie as tie
 
-order-requires : tie.Need-order-requires
-order-requires c κs = search needs
-
-tell-requires : tie.Need-tell-requires
-tell-requires c κs = search needs
-
 returns : tie.Need-returns
 returns c = told-of header-of header-counts (ordered (c .before .before .before .before .before .args .book .now)) _ _ _ _ (c .before .before .before .order .ensures .verdict) (c .tell .ensures)
 
 pub rabbitsteel-order-spec : {M : Type 1} → statement M
-rabbitsteel-order-spec = tie.close (tie.spec order-requires tell-requires returns)
+rabbitsteel-order-spec = tie.close (tie.spec (λ c κs. search needs) (λ c κs. search needs) returns)

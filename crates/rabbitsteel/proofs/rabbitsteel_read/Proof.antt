@@ -7,14 +7,8 @@ use Rattle.book_decoder.specs.Verdict.{header-of}
 use Rattle.rabbitsteel.proofs.rabbitsteel_read.Statement.{statement}
 use Rattle.rabbitsteel.proofs.rabbitsteel_read.Tie as tie
 
-read-requires : tie.Need-read-requires
-read-requires c κs = search needs
-
-tell-requires : tie.Need-tell-requires
-tell-requires c κs = search needs
-
 returns : tie.Need-returns
 returns c = told-of header-of header-counts (read (c .before .before .before .before .before .args .book .now)) _ _ _ _ (c .before .before .before .read .ensures) (c .tell .ensures)
 
 pub rabbitsteel-read-spec : {M : Type 1} → statement M
-rabbitsteel-read-spec = tie.close (tie.spec read-requires tell-requires returns)
+rabbitsteel-read-spec = tie.close (tie.spec (λ c κs. search needs) (λ c κs. search needs) returns)

@@ -7,9 +7,6 @@ use Rattle.book_reader.specs.EnteredLaws.{entered-more}
 use Rattle.book_reader.proofs.repeats.enter.Statement.{statement}
 use Rattle.book_reader.proofs.repeats.enter.Tie as tie
 
-slice-write-index-2 : tie.Need-slice-write-index-2
-slice-write-index-2 c = simp length-set (omega (arith, c .before .pre .0 .entries))
-
 returns : tie.Need-returns
 returns c = (refl, entered-more _ _ _ _ (c .before .pre .0) (c .before .pre .1))
 
@@ -27,7 +24,7 @@ enter-spec =
     (λ c. search needs)
     (λ c. search needs)
     (λ c. search needs)
-    slice-write-index-2
+    (λ c. simp length-set (omega (arith, c .before .pre .0 .entries)))
     (λ c. search needs)
     (λ c. search needs)
     returns)

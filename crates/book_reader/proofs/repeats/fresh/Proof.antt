@@ -18,9 +18,6 @@ abbrev μ-loop : tie.MeasureT-loop
 cast-at : tie.Need-cast-at Inv-loop μ-loop
 cast-at c = omega (arith, c .shared-slice-known .given (c .before .args .key % 251))
 
-loop-holds : tie.Need-loop-holds Inv-loop μ-loop
-loop-holds c = walked-start _ _ _ _ (c .before .pre)
-
 mul-if1 : tie.Need-mul-if1 Inv-loop μ-loop
 mul-if1 c = omega (arith, c .before .loop .inv .low, c .before .before .before .pre .linked .space, c .before .before .before .pre .entries)
 
@@ -60,7 +57,7 @@ fresh-spec =
     (λ c. search needs)
     (λ c. search needs)
     cast-at
-    loop-holds
+    (λ c. walked-start _ _ _ _ (c .before .pre))
     (λ c. search needs)
     mul-if1
     shared-slice-read-if1

@@ -16,9 +16,6 @@ Inv-loop masks₀ right lower x₀ masks x = (x ≤ length masks₀) × Absorbin
 abbrev μ-loop : tie.MeasureT-loop
 μ-loop masks₀ right lower x₀ masks x = length masks₀ - x
 
-loop-holds : tie.Need-loop-holds Inv-loop μ-loop
-loop-holds c = (omega arith, absorbing-start _ _ _)
-
 loop-again : tie.Need-loop-again Inv-loop μ-loop
 loop-again c =
     let fits : c .before .before .before .loop .x < length (c .before .before .before .before .before .args .masks .now) = omega (arith, (c .before .before .before .before .before .pre .1)) in (
@@ -40,7 +37,7 @@ absorb-spec =
     (tie.spec
     Inv-loop
     μ-loop
-    loop-holds
+    (λ c. (omega arith, absorbing-start _ _ _))
     (λ c. search needs)
     (λ c. search needs)
     (λ c. search needs)

@@ -4,11 +4,5 @@ use Rattle.order_masks.specs.ReachLaws.{has-shift}
 use Rattle.order_checker.proofs.masks.has.Statement.{statement}
 use Rattle.order_checker.proofs.masks.has.Tie as tie
 
-shr-result : tie.Need-shr-result
-shr-result c = search needs
-
-returns : tie.Need-returns
-returns c = has-shift (c .args .mask) (c .args .y)
-
 pub has-spec : {M : Type 1} → statement M
-has-spec = tie.close (tie.spec shr-result returns)
+has-spec = tie.close (tie.spec (λ c. search needs) (λ c. has-shift (c .args .mask) (c .args .y)))

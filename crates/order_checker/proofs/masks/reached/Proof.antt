@@ -14,9 +14,6 @@ Inv-loop roles masks lower₀ i₀ lower i = (i ≤ length roles) × Reaching ma
 abbrev μ-loop : tie.MeasureT-loop
 μ-loop roles masks lower₀ i₀ lower i = length roles - i
 
-loop-holds : tie.Need-loop-holds Inv-loop μ-loop
-loop-holds c = (omega arith, reaching-start _ _)
-
 -- the name of the role read has a mask
 name-masked : (c : tie.After-name Inv-loop μ-loop) → c .name .result < length (c .before .before .before .before .before .before .args .masks .now)
 unfolding name
@@ -24,18 +21,6 @@ name-masked c = omega (arith, c .name .ensures, c .before .before .before .befor
 
 name-small : (c : tie.After-name Inv-loop μ-loop) → c .name .result < 64
 name-small c = omega (arith, name-masked c, c .before .before .before .before .before .before .pre .1)
-
-cast-inner : tie.Need-cast-inner Inv-loop μ-loop
-cast-inner c = omega (arith, name-small c)
-
-single-requires : tie.Need-single-requires Inv-loop μ-loop
-single-requires c κs = name-small c
-
-mul-lower : tie.Need-mul-lower Inv-loop μ-loop
-mul-lower c = omega (arith, name-small (c .before))
-
-shared-slice-read-lower : tie.Need-shared-slice-read-lower Inv-loop μ-loop
-shared-slice-read-lower c = name-masked (c .before .before)
 
 loop-again : tie.Need-loop-again Inv-loop μ-loop
 loop-again c = (omega arith, reaching-next _ _ _ _ _ _ (c .before .before .before .before .loop-test .taken) (c .before .before .name .ensures) (name-small (c .before .before)) (c .before .single .ensures) (c .before .before .before .before .before .loop .inv .1))
@@ -49,13 +34,13 @@ reached-spec =
     (tie.spec
     Inv-loop
     μ-loop
-    loop-holds
+    (λ c. (omega arith, reaching-start _ _))
     (λ c. search needs)
     (λ c κs. search needs)
-    cast-inner
-    single-requires
-    mul-lower
-    shared-slice-read-lower
+    (λ c. omega (arith, name-small c))
+    (λ c κs. name-small c)
+    (λ c. omega (arith, name-small (c .before)))
+    (λ c. name-masked (c .before .before))
     (λ c. search needs)
     (λ c. search needs)
     loop-again

@@ -15,9 +15,6 @@ Inv-loop heads i₀ i = (i ≤ length heads) × (heads-fit (drop i heads) ≡ he
 abbrev μ-loop : tie.MeasureT-loop
 μ-loop heads i₀ i = length heads - i
 
-loop-holds : tie.Need-loop-holds Inv-loop μ-loop
-loop-holds c = (omega arith, refl)
-
 returns : tie.Need-returns Inv-loop μ-loop
 returns c = sym (heads-not _ _ (c .before .before .loop-test .taken) (omega arith)) ∙ (c .before .before .before .loop .inv .1)
 
@@ -33,7 +30,7 @@ heads-fit-spec =
     (tie.spec
     Inv-loop
     μ-loop
-    loop-holds
+    (λ c. (omega arith, refl))
     (λ c. search needs)
     (λ c. search needs)
     returns

@@ -8,9 +8,6 @@ use Rattle.refusals.specs.Check.{check}
 use Rattle.query_checker.proofs.checks.tables_fit.Statement.{statement}
 use Rattle.query_checker.proofs.checks.tables_fit.Tie as tie
 
-returns : tie.Need-returns
-returns c = ap check (sym (heads-none _ _ (c .if1 .taken)))
-
 returns-2 : tie.Need-returns-2
 returns-2 c = ap check (sym (heads-many _ _ (c .before .if1 .left) (omega arith)))
 
@@ -33,7 +30,7 @@ pub tables-fit-spec : {M : Type 1} → statement M
 tables-fit-spec =
     tie.close
     (tie.spec
-    returns
+    (λ c. ap check (sym (heads-none _ _ (c .if1 .taken))))
     returns-2
     (λ c κs. search needs)
     returns-3

@@ -15,9 +15,6 @@ Inv-loop moves i₀ i = (i ≤ length moves) × (fit-from moves i ≡ transition
 abbrev μ-loop : tie.MeasureT-loop
 μ-loop moves i₀ i = length moves - i
 
-loop-holds : tie.Need-loop-holds Inv-loop μ-loop
-loop-holds c = (omega arith, refl)
-
 returns : tie.Need-returns Inv-loop μ-loop
 returns c = sym (from-not _ _ (c .before .before .loop-test .taken) (c .if1 .taken)) ∙ (c .before .before .before .loop .inv .1)
 
@@ -39,7 +36,7 @@ transitions-fit-spec =
     (tie.spec
     Inv-loop
     μ-loop
-    loop-holds
+    (λ c. (omega arith, refl))
     (λ c. search needs)
     (λ c. search needs)
     (λ c. search needs)
