@@ -1,5 +1,5 @@
 // What the program does: reads a book's file (a missing one counts as empty) and then questions from standard input, and writes the book's first line
-// and a line for each question. What it says is decided by `transcriber`; here are opening, reading, writing and the loop.
+// and a line for each question. What it says is decided by `transcript_writer`; here are opening, reading, writing and the loop.
 ghost use mathlib.Core.Logic.{_⊎_};
 ghost use mathlib.Core.Path.{_≡_};
 ghost use Prim.Native.Nat.{_<_, _≤_};
