@@ -6,3 +6,5 @@ pub mod DecodeLaws
 pub mod RepeatLaws
 pub mod DeclaredLaws
 pub mod ReadLaws
+pub mod Encode
+pub mod EncodeLaws
