@@ -1,0 +1,3 @@
+pub mod BookStores
+pub mod BookStoreLaws
+pub mod BookWriting
