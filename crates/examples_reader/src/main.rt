@@ -77,7 +77,7 @@ fn counts() {
 }
 
 // What the reader answers for a grid of rules, cut to a number of bytes.
-fn grid_of(text: &[u8], names: u8, rules: usize, size: usize, bytes: usize) {
+fn grid_of(text: &[u8], names: u8, rules: u16, size: usize, bytes: usize) {
     let mut space = [0u8; 2600];
     grid(&mut space, names, rules, size);
     verdict(text, front(&space, bytes));
