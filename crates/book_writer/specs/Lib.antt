@@ -1,3 +1,4 @@
 pub mod BookStores
 pub mod BookStoreLaws
 pub mod BookWriting
+pub mod BookWritingLaws

@@ -1,5 +1,5 @@
 -- `put_rule` meets its contract: nothing where the rule is too long or has no room, else its bytes in a row.
-use mathlib.Core.Path.{_≡_, ap, _∙_}
+use mathlib.Core.Path.{ap, _∙_}
 use native.Mathlib.Omega.{arith}
 use borrow.Author.Needs.{needs}
 use lib.ListN.{length, length-set}
