@@ -14,6 +14,7 @@ use query_checker::QueryRefusal;
 use query_checker::Question;
 use refusals::Refusal;
 use table_builder::Outcome;
+use text_parts::byte;
 
 // What a question about a book is answered with.
 pub enum Reply {
@@ -32,21 +33,13 @@ pub enum Reply {
 pub fn derived(book: &[u8], heads: &mut [u16], moves: &mut [u16], role: u8, chain: &[u8]) -> Reply
     ensures { λ r. ⌜ Replies (now (book .entry)) (now (heads .entry)) (now (moves .entry)) role (now (chain .entry)) (now (heads .exit)) (now (moves .exit)) r ⌝ }
 {
-    let question = query_checker::check_for(names_of(book), role, chain);
+    // The names that the book says it has; 0 where it is too short to say.
+    let names = byte(book, 5);
+    let question = query_checker::check_for(names, role, chain);
     match question {
         Question::Refused(refusal) => refuse(book, heads.len(), moves.len(), refusal),
         Question::Fits => decide(book, heads, moves, role, chain),
     }
-}
-
-// The names that a book says it has; 0 where it is too short to say.
-fn names_of(book: &[u8]) -> u8
-    ensures { λ r. ⌜ r ≡ getD (now (book .entry)) 5 0 ⌝ }
-{
-    if book.len() < 6 {
-        return 0;
-    }
-    book[5]
 }
 
 // The reply to a question that is refused: causes 1 to 11 come first. They are judged on tables aside, as long as those lent or as any book needs.

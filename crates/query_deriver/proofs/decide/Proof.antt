@@ -13,10 +13,14 @@ put-requires : tie.Need-put-requires
 put-requires c κs = let p = rw (c .before .before .before .before .outcome2 .given .1) at (c .before .before .before .before .before .before .before .before .before .before .build .ensures) in (names-lent _ _ _ _ _ _ p, numbers-lent _ _ _ _ _ _ p)
 
 returns : tie.Need-returns
-returns c = replies-refused _ _ _ _ _ (c .before .before .before .before .before .before .before .before .before .before .before .before .before .before .args .role) (c .before .before .before .before .before .before .before .before .before .before .before .before .before .before .args .chain .now) (c .before .before .before .before .before .before .before .before .before .before .before .before .before .before .pre) _ (rw (c .before .outcome .given .1) at (c .before .before .before .before .before .before .before .build .ensures))
+returns c =
+    let entry = c .before .before .before .before .before .before .before .before .before .before .before .before .before .before in
+    replies-refused _ _ _ _ _ (entry .args .role) (entry .args .chain .now) (entry .pre) _ (rw (c .before .outcome .given .1) at (c .before .before .before .before .before .before .before .build .ensures))
 
 returns-2 : tie.Need-returns-2
-returns-2 c = replies-settled _ _ _ _ _ (c .before .before .before .before .before .before .before .before .before .before .before .before .before .before .before .before .before .before .args .role) (c .before .before .before .before .before .before .before .before .before .before .before .before .before .before .before .before .before .before .args .chain .now) (c .before .before .before .before .before .before .before .before .before .before .before .before .before .before .before .before .before .before .pre) _ (rw (c .before .before .before .before .before .outcome2 .given .1) at (c .before .before .before .before .before .before .before .before .before .before .before .build .ensures)) _ (c .put .ensures)
+returns-2 c =
+    let entry = c .before .before .before .before .before .before .before .before .before .before .before .before .before .before .before .before .before .before in
+    replies-settled _ _ _ _ _ (entry .args .role) (entry .args .chain .now) (entry .pre) _ (rw (c .before .before .before .before .before .outcome2 .given .1) at (c .before .before .before .before .before .before .before .before .before .before .before .build .ensures)) _ (c .put .ensures)
 
 pub decide-spec : {M : Type 1} → statement M
 decide-spec =

@@ -6,10 +6,18 @@ use Rattle.query_deriver.proofs.derived.Statement.{statement}
 use Rattle.query_deriver.proofs.derived.Tie as tie
 
 decide-requires : tie.Need-decide-requires
-decide-requires c κs = found (c .before .before .before .before .before .before .before .before .before .before .args .book .now) (c .before .before .before .before .before .names-of .result) (c .before .before .before .before .before .before .before .before .before .before .args .role) (c .before .before .before .before .before .before .before .before .before .before .args .chain .now) (c .before .before .before .before .before .names-of .ensures) (c .before .before .before .before .check-for .result) Fits (c .before .before .before .before .check-for .ensures) (c .before .before .enum-told .given .1)
+decide-requires c κs =
+    let at-check-for = c .before .before .before .before in
+    let at-byte = at-check-for .before in
+    let entry = at-byte .before .before .before .before .before in
+    found (entry .args .book .now) (at-byte .byte .result) (entry .args .role) (entry .args .chain .now) (at-byte .byte .ensures) (at-check-for .check-for .result) Fits (at-check-for .check-for .ensures) (c .before .before .enum-told .given .1)
 
 returns : tie.Need-returns
-returns c = replies-kept (c .before .before .before .before .before .before .before .before .before .before .args .book .now) _ _ (c .before .before .before .before .before .before .before .before .before .before .args .role) (c .before .before .before .before .before .before .before .before .before .before .args .chain .now) _ _ (found (c .before .before .before .before .before .before .before .before .before .before .args .book .now) (c .before .before .before .before .before .names-of .result) (c .before .before .before .before .before .before .before .before .before .before .args .role) (c .before .before .before .before .before .before .before .before .before .before .args .chain .now) (c .before .before .before .before .before .names-of .ensures) (c .before .before .before .before .check-for .result) (Refused (c .before .before .question .given .0 .0)) (c .before .before .before .before .check-for .ensures) (c .before .before .question .given .1)) _ (c .refuse .ensures)
+returns c =
+    let at-check-for = c .before .before .before .before in
+    let at-byte = at-check-for .before in
+    let entry = at-byte .before .before .before .before .before in
+    replies-kept (entry .args .book .now) _ _ (entry .args .role) (entry .args .chain .now) _ _ (found (entry .args .book .now) (at-byte .byte .result) (entry .args .role) (entry .args .chain .now) (at-byte .byte .ensures) (at-check-for .check-for .result) (Refused (c .before .before .question .given .0 .0)) (at-check-for .check-for .ensures) (c .before .before .question .given .1)) _ (c .refuse .ensures)
 
 pub derived-spec : {M : Type 1} → statement M
 derived-spec =
