@@ -3,9 +3,10 @@ use mathlib.Core.Bool.{Bool, true, false, cond, true≢false}
 use mathlib.Core.List.{List, _∷_}
 use mathlib.Core.Path.{_≡_, refl, sym, ap, _∙_}
 use native.Mathlib.Omega.{arith}
-use Prim.Native.Nat.{ℕ, _+_, _-_, _≤_}
+use Prim.Native.Nat.{ℕ, _+_, _-_, _<_, _≤_}
 use native.Mathlib.Nat.{add-sub-cancel-left}
-use lib.ListN.{length, take, drop}
+use lib.ListN.{length, take, drop, length-take}
+use Rattle.roles.specs.RuleLaws.{rule-path}
 use Rattle.book_format.specs.Format.{named}
 use Rattle.book_format.specs.Place.{next-at, whole-at, rule-at, rule-place}
 use Rattle.book_format.specs.FormatLaws.{Whole, whole-true, whole-false, whole-facts, place-next}
@@ -88,3 +89,34 @@ named-entry s n k e next t a h = rw (← a .right, ← a .rule) h
 pub entry-part : (s : List ℕ) (e : Entry) → take (e .start + e .size - e .start) (drop (e .start) s) ≡ entry-rule s e .left
 unfolding entry-rule
 entry-part s e = ap (λ (k : ℕ). take k (drop (e .start) s)) (add-sub-cancel-left (e .start) (e .size))
+
+-- what a walk over the rules needs of a step at rule k: the step gives a rule, which is rule k with the part that is handed out of its entry, and the
+-- cursor past it
+pub record Hands (s : List ℕ) (k : ℕ) (e : Entry) (next : Cursor) : Type 0 where
+  pub fits : e .start + e .size ≤ length s
+  pub few : length (take (e .start + e .size - e .start) (drop (e .start) s)) ≤ 8
+  pub rule : record { left = take (e .start + e .size - e .start) (drop (e .start) s); right = e .right } ≡ rule-at s (rule-place s k)
+  pub place : next .at ≡ rule-place s (k + 1)
+
+pub record Yields (s : List ℕ) (k : ℕ) (step : Step) : Type 0 where
+  pub some : step ≡ Malformed → ⊥
+  pub hands : (e : Entry) (next : Cursor) → step ≡ Rule-and-next e next → Hands s k e next
+
+-- below the rule count of a book whose rules are whole, a step yields rule k
+pub yields : (s : List ℕ) (n : ℕ) → ((k : ℕ) → k < n → whole-at s (rule-place s k) ≡ true)
+    → (k at : ℕ) (step : Step) → k < n → at ≡ rule-place s k → step ≡ step-at s at → Yields s k step
+unfolding entry-rule
+yields s n whole k at step h p d =
+    record {
+      some = some-rule s k at step p (whole k h) d;
+      hands =
+          λ e next q.
+          let a : AtRule s k e next = at-rule s k at step e next p d q in
+          let t : Stepped s at e next = step-rule s at step e next d q in
+          record {
+            fits = a .fits;
+            few = let few : e .size ≤ 8 = rw (t .entry) (whole-facts s at (t .whole) .few) in rw length-take (omega arith);
+            rule = rule-path _ _ (entry-part s e) refl ∙ a .rule;
+            place = a .place;
+          };
+    }

@@ -1,29 +1,166 @@
 -- The steps of filling an index, store by store: each store keeps what the step is to leave.
 use mathlib.Core.List.{List}
 use mathlib.Core.Logic.{_⊎_, inl, inr}
-use mathlib.Core.Path.{_≡_, refl, sym, _∙_}
-use Prim.Native.Nat.{ℕ, suc, _+_, _<_, _≤_}
+use mathlib.Core.Path.{_≡_, refl, sym, ap, _∙_}
+use Prim.Native.Nat.{ℕ, suc, _+_, _-_, _*_, _<_, _≤_}
 use native.Mathlib.Omega.{arith}
 use lib.ListN.{length, getD, set, length-set}
-use lib.Seq.{getD-set-same, getD-set-other}
+use lib.Seq.{ext-getD, getD-set-same, getD-set-other}
+use Rattle.base.specs.Part.{part, getD-part, length-part}
 use Rattle.base.specs.Truth.{eq-or-ne}
-use Rattle.roles.specs.Role.{name}
+use Rattle.roles.specs.Role.{Chain, name}
 use Rattle.roles.specs.Rule.{Rule}
-use Rattle.book_format.specs.Place.{rule-place}
+use Rattle.order.specs.Shape.{shape}
+use Rattle.book_format.specs.Place.{rule-at, rule-place}
+use Rattle.rule_shapes.specs.declared.Shape.{Shape}
+use Rattle.rule_shapes.specs.FoundShape.{shape-found}
+use Rattle.rule_shapes.specs.FoundShapeLaws.{found-shape, found-within}
+use Rattle.rule_index.specs.declared.numbers.Numbers.{Numbers}
 use Rattle.rule_index.specs.RuleLinks.{rule, Link, link-none, link-here, link-other}
-use Rattle.rule_index.specs.RuleIndex.{place-in, next-in, first-in, level-in}
-use Rattle.rule_index.specs.Filling.{Located, Started, Linking}
+use Rattle.rule_index.specs.RuleIndex.{right-in, kind-in, from-in, to-in, size-in, next-in, first-in, level-in, shape-by, Recorded}
+use Rattle.rule_index.specs.ShapeNumbers.{numbers, Says, numbers-say}
+use Rattle.rule_index.specs.Filling.{Copied, Entered, Entering, Started, Linkable, Linking}
 
--- places, one more
-pub located-none : (s ix : List ℕ) → length ix ≡ 640 → Located s 0 ix
-located-none s ix h = record { size = h; place = λ k p. absurd (let f : ⊥ = omega arith in f) }
+-- the numbers of a rule, one by one
+recorded : (ρ : Rule) (ix : List ℕ) (k kind from to z : ℕ) (inner : Chain) → right-in ix k ≡ ρ .right → kind-in ix k ≡ kind → from-in ix k ≡ from
+    → to-in ix k ≡ to → size-in ix k ≡ z → part ix (14 * k + 6) z ≡ inner → shape-by kind from to inner ≡ shape ρ
+    → kind ≤ 2 → from ≤ 1 → to ≤ 1 → z ≤ 8 → Recorded ρ ix k
+recorded ρ ix k kind from to z inner r a b c d e s p q t u =
+    record {
+      right = r;
+      shaped = (λ i. shape-by (a i) (b i) (c i) ((ap (part ix (14 * k + 6)) d ∙ e) i)) ∙ s;
+      kind = rw a p;
+      from = rw b q;
+      to = rw c t;
+      size = rw d u;
+    }
 
-pub located-more : (s ix : List ℕ) (k at : ℕ) → k < 640 → at ≡ rule-place s k → Located s k ix → Located s (k + 1) (set ix k at)
-located-more s ix k at h e l = record { size = rw length-set (l .size); place = λ j p. by-place j p (eq-or-ne j k) }
+same-part : (l m : List ℕ) (a b z : ℕ) → a + z ≤ length l → b + z ≤ length m → ((j : ℕ) → j < z → getD l (a + j) 0 ≡ getD m (b + j) 0)
+    → part l a z ≡ part m b z
+same-part l m a b z p q h =
+    ext-getD 0 (part l a z) (part m b z) (length-part l a z p ∙ sym (length-part m b z q))
+    (λ j r. let t : j < z = rw (length-part l a z p) at r in getD-part l a z j t ∙ h j t ∙ sym (getD-part m b z j t))
+
+-- where all of them but the link are as before, they say the same
+pub recorded-kept : (ρ : Rule) (k : ℕ) (before ix : List ℕ) → k < 256 → length before ≡ 3712 → length ix ≡ 3712
+    → ((m : ℕ) → 14 * k ≤ m → m < 14 * k + 14 → (m ≡ 14 * k + 5 → ⊥) → getD ix m 0 ≡ getD before m 0) → Recorded ρ before k → Recorded ρ ix k
+recorded-kept ρ k before ix h a b same r =
+    recorded ρ ix k _ _ _ _ _ (same (14 * k) (omega arith) (omega arith) (omega arith) ∙ r .right)
+    (same (14 * k + 1) (omega arith) (omega arith) (omega arith)) (same (14 * k + 2) (omega arith) (omega arith) (omega arith))
+    (same (14 * k + 3) (omega arith) (omega arith) (omega arith)) (same (14 * k + 4) (omega arith) (omega arith) (omega arith))
+    (same-part ix before (14 * k + 6) (14 * k + 6) (size-in before k) (omega (arith, r .size)) (omega (arith, r .size))
+    (λ j p. same (14 * k + 6 + j) (omega arith) (omega (arith, r .size)) (omega arith)))
+    (r .shaped) (r .kind) (r .from) (r .to) (r .size)
+
+-- inner roles, one more
+module _ (left : List ℕ) (start k : ℕ) (h : k < 256) where
+  pub copied-none : (ix : List ℕ) → length ix ≡ 3712 → Copied left start k 0 ix ix
+  copied-none ix l = record { size = l; kept = λ m p. refl; inner = λ j p. absurd (let f : ⊥ = omega arith in f) }
+
+  pub copied-more : (before ix : List ℕ) (i : ℕ) → i < 8 → Copied left start k i before ix
+      → Copied left start k (i + 1) before (set ix (14 * k + 6 + i) (getD left (start + i) 0))
+  copied-more before ix i p t =
+      record {
+        size = rw length-set (t .size);
+        kept = λ m q. other m (omega arith) ∙ t .kept m q;
+        inner = λ j q. by-place j q (eq-or-ne j i);
+      }
+    where
+      new : List ℕ
+      new = set ix (14 * k + 6 + i) (getD left (start + i) 0)
+
+      other : (m : ℕ) → (m ≡ 14 * k + 6 + i → ⊥) → getD new m 0 ≡ getD ix m 0
+      other m = getD-set-other ix (14 * k + 6 + i) m _ 0
+
+      by-place : (j : ℕ) → j < i + 1 → (j ≡ i) ⊎ (j ≡ i → ⊥) → getD new (14 * k + 6 + j) 0 ≡ getD left (start + j) 0
+      by-place j q (inl e) = rw e (getD-set-same ix (14 * k + 6 + i) _ 0 (omega (arith, t .size)))
+      by-place j q (inr e) = other (14 * k + 6 + j) (omega arith) ∙ t .inner j (omega arith)
+
+-- five stores in a row
+module _ (ix : List ℕ) (at a b c d e : ℕ) where
+  abbrev pub one : List ℕ
+  one = set ix at a
+
+  abbrev pub two : List ℕ
+  two = set one (at + 1) b
+
+  abbrev pub three : List ℕ
+  three = set two (at + 2) c
+
+  abbrev pub four : List ℕ
+  four = set three (at + 3) d
+
+  abbrev pub five : List ℕ
+  five = set four (at + 4) e
+
+-- the numbers of the shape that is found, with the inner roles, are the rule's
+module _ (left : List ℕ) (right : ℕ) (sh : Shape) (f : sh ≡ shape-found left right) (n : Numbers) (g : n ≡ numbers sh) where
+  pub found-says : Says left sh n
+  found-says = rw g (numbers-say left sh (found-within left right sh f))
+
+  pub copied-all : length left ≤ 8 → (k : ℕ) → k < 256 → (before ix : List ℕ) → length before ≡ 3712 → (i : ℕ) → n .size ≤ i
+      → Copied left (n .start) k i (five before (14 * k) right (n .kind) (n .from) (n .to) (n .size)) ix
+      → Entered (record { left = left; right = right }) k before ix
+  copied-all h k p before ix l i q t =
+      record {
+        size = t .size;
+        kept =
+            λ m r.
+            t .kept m (omega arith) ∙ other-4 m (omega arith) ∙ other-3 m (omega arith) ∙ other-2 m (omega arith) ∙ other-1 m (omega arith)
+            ∙ getD-set-other before (14 * k) m right 0 (omega arith);
+        entry =
+            recorded _ ix k _ _ _ _ _
+            (t .kept (14 * k) (omega arith) ∙ other-4 (14 * k) (omega arith) ∙ other-3 (14 * k) (omega arith) ∙ other-2 (14 * k) (omega arith)
+            ∙ other-1 (14 * k) (omega arith) ∙ getD-set-same before (14 * k) right 0 (omega arith))
+            (t .kept (14 * k + 1) (omega arith) ∙ other-4 (14 * k + 1) (omega arith) ∙ other-3 (14 * k + 1) (omega arith)
+            ∙ other-2 (14 * k + 1) (omega arith) ∙ getD-set-same ix₁ (14 * k + 1) (n .kind) 0 (simp length-set (omega arith)))
+            (t .kept (14 * k + 2) (omega arith) ∙ other-4 (14 * k + 2) (omega arith) ∙ other-3 (14 * k + 2) (omega arith)
+            ∙ getD-set-same ix₂ (14 * k + 2) (n .from) 0 (simp length-set (omega arith)))
+            (t .kept (14 * k + 3) (omega arith) ∙ other-4 (14 * k + 3) (omega arith)
+            ∙ getD-set-same ix₃ (14 * k + 3) (n .to) 0 (simp length-set (omega arith)))
+            (t .kept (14 * k + 4) (omega arith) ∙ getD-set-same ix₄ (14 * k + 4) (n .size) 0 (simp length-set (omega arith)))
+            (same-part ix left (14 * k + 6) (n .start) (n .size) (omega (arith, found-says .within, t .size)) (found-says .within)
+            (λ j r. t .inner j (omega arith)))
+            (found-says .shaped ∙ found-shape left right sh f) (found-says .kind) (found-says .from) (found-says .to)
+            (omega (arith, found-says .within));
+      }
+    where
+      ix₁ : List ℕ
+      ix₁ = one before (14 * k) right (n .kind) (n .from) (n .to) (n .size)
+
+      ix₂ : List ℕ
+      ix₂ = two before (14 * k) right (n .kind) (n .from) (n .to) (n .size)
+
+      ix₃ : List ℕ
+      ix₃ = three before (14 * k) right (n .kind) (n .from) (n .to) (n .size)
+
+      ix₄ : List ℕ
+      ix₄ = four before (14 * k) right (n .kind) (n .from) (n .to) (n .size)
+
+      other-1 : (m : ℕ) → (m ≡ 14 * k + 1 → ⊥) → getD ix₂ m 0 ≡ getD ix₁ m 0
+      other-1 m = getD-set-other ix₁ (14 * k + 1) m (n .kind) 0
+
+      other-2 : (m : ℕ) → (m ≡ 14 * k + 2 → ⊥) → getD ix₃ m 0 ≡ getD ix₂ m 0
+      other-2 m = getD-set-other ix₂ (14 * k + 2) m (n .from) 0
+
+      other-3 : (m : ℕ) → (m ≡ 14 * k + 3 → ⊥) → getD ix₄ m 0 ≡ getD ix₃ m 0
+      other-3 m = getD-set-other ix₃ (14 * k + 3) m (n .to) 0
+
+      other-4 : (m : ℕ) → (m ≡ 14 * k + 4 → ⊥) → getD (set ix₄ (14 * k + 4) (n .size)) m 0 ≡ getD ix₄ m 0
+      other-4 m = getD-set-other ix₄ (14 * k + 4) m (n .size) 0
+
+-- rules, one more
+pub entering-none : (s ix : List ℕ) → length ix ≡ 3712 → Entering s 0 ix
+entering-none s ix h = record { size = h; entry = λ k p. absurd (let f : ⊥ = omega arith in f) }
+
+pub entering-more : (s before ix : List ℕ) (k : ℕ) (ρ : Rule) → k < 256 → ρ ≡ rule-at s (rule-place s k) → Entering s k before → Entered ρ k before ix
+    → Entering s (k + 1) ix
+entering-more s before ix k ρ h e t n = record { size = n .size; entry = λ j p. by-place j p (eq-or-ne j k) }
   where
-    by-place : (j : ℕ) → j < k + 1 → (j ≡ k) ⊎ (j ≡ k → ⊥) → place-in (set ix k at) j ≡ rule-place s j
-    by-place j p (inl q) = rw (q, ← e) (getD-set-same ix k at 0 (omega (arith, l .size)))
-    by-place j p (inr q) = getD-set-other ix k j at 0 q ∙ l .place j (omega arith)
+    by-place : (j : ℕ) → j < k + 1 → (j ≡ k) ⊎ (j ≡ k → ⊥) → Recorded (rule-at s (rule-place s j)) ix j
+    by-place j p (inl q) = rw (q, ← e) (n .entry)
+    by-place j p (inr q) =
+        recorded-kept _ j before ix (omega arith) (t .size) (n .size) (λ m a b c. n .kept m (omega arith)) (t .entry j (omega arith))
 
 -- two stores: what stands elsewhere, at the first and at the second
 module _ (ix : List ℕ) (i j v w : ℕ) where
@@ -40,7 +177,7 @@ module _ (ix : List ℕ) (i j v w : ℕ) where
   two-second h = getD-set-same (set ix i v) j w 0 (rw length-set h)
 
 -- names with no rule and their levels, one more
-pub started-none : (levels ix : List ℕ) → length ix ≡ 640 → Started levels 0 ix ix
+pub started-none : (levels ix : List ℕ) → length ix ≡ 3712 → Started levels 0 ix ix
 started-none levels ix h =
     record {
       size = h;
@@ -50,7 +187,7 @@ started-none levels ix h =
     }
 
 pub started-more : (levels before ix : List ℕ) (x : ℕ) → x < 64 → Started levels x before ix
-    → Started levels (x + 1) before (set (set ix (512 + x) 256) (576 + x) (getD levels x 0))
+    → Started levels (x + 1) before (set (set ix (3584 + x) 256) (3648 + x) (getD levels x 0))
 started-more levels before ix x h l =
     record {
       size = length-two ix _ _ _ _ ∙ l .size;
@@ -60,61 +197,83 @@ started-more levels before ix x h l =
     }
   where
     new : List ℕ
-    new = set (set ix (512 + x) 256) (576 + x) (getD levels x 0)
+    new = set (set ix (3584 + x) 256) (3648 + x) (getD levels x 0)
 
-    elsewhere : (m : ℕ) → (m ≡ 512 + x → ⊥) → (m ≡ 576 + x → ⊥) → getD new m 0 ≡ getD ix m 0
-    elsewhere = two-other ix (512 + x) (576 + x) 256 (getD levels x 0)
+    elsewhere : (m : ℕ) → (m ≡ 3584 + x → ⊥) → (m ≡ 3648 + x → ⊥) → getD new m 0 ≡ getD ix m 0
+    elsewhere = two-other ix (3584 + x) (3648 + x) 256 (getD levels x 0)
 
     first-of : (y : ℕ) → y < x + 1 → (y ≡ x) ⊎ (y ≡ x → ⊥) → first-in new y ≡ 256
-    first-of y p (inl e) = rw e (two-first ix (512 + x) (576 + x) 256 _ (omega (arith, l .size)) (omega arith))
-    first-of y p (inr e) = elsewhere (512 + y) (omega arith) (omega arith) ∙ l .first y (omega arith)
+    first-of y p (inl e) = rw e (two-first ix (3584 + x) (3648 + x) 256 _ (omega (arith, l .size)) (omega arith))
+    first-of y p (inr e) = elsewhere (3584 + y) (omega arith) (omega arith) ∙ l .first y (omega arith)
 
     level-of : (y : ℕ) → y < x + 1 → (y ≡ x) ⊎ (y ≡ x → ⊥) → level-in new y ≡ getD levels y 0
-    level-of y p (inl e) = rw e (two-second ix (512 + x) (576 + x) 256 _ (omega (arith, l .size)))
-    level-of y p (inr e) = elsewhere (576 + y) (omega arith) (omega arith) ∙ l .level y (omega arith)
-
--- the places stay
-pub located-kept : (s levels : List ℕ) (n : ℕ) (before ix : List ℕ) → n ≤ 256 → Located s n before → Started levels 64 before ix → Located s n ix
-located-kept s levels n before ix h l t = record { size = t .size; place = λ k p. t .kept k (omega arith) ∙ l .place k p }
+    level-of y p (inl e) = rw e (two-second ix (3584 + x) (3648 + x) 256 _ (omega (arith, l .size)))
+    level-of y p (inr e) = elsewhere (3648 + y) (omega arith) (omega arith) ∙ l .level y (omega arith)
 
 -- links: none past the last rule, and one rule more, in front of the others of its right name
-module _ (ρs : List Rule) (few : length ρs ≤ 256) where
-  pub linking-none : (ix : List ℕ) (k : ℕ) → k ≡ length ρs → length ix ≡ 640 → ((x : ℕ) → x < 64 → first-in ix x ≡ 256) → Linking ρs k ix ix
-  linking-none ix k e h f =
+module _ (ρs : List Rule) (n : ℕ) (before : List ℕ) (l : Linkable ρs n before) where
+  few : length ρs ≤ 256
+  few = rw (← l .count) (l .few)
+
+  pub linking-none : Linking ρs n before before
+  linking-none =
       record {
-        size = h;
-        place = λ j p. refl;
+        size = l .size;
+        kept = λ m p q. refl;
         level = λ x p. refl;
-        first = λ x p. rw (e, f x p) (link-none ρs x few);
-        next = λ j p q. absurd (let z : ⊥ = omega arith in z);
+        first = λ x p. rw (l .count, l .none x p) (link-none ρs x few);
+        next = λ j p q. absurd (let z : ⊥ = omega (arith, l .count) in z);
       }
 
-  pub linking-more : (before ix : List ℕ) (after k x : ℕ) → after ≡ suc k → k < length ρs → x ≡ name (rule ρs k .right) → x < 64
-      → Linking ρs after before ix → Linking ρs k before (set (set ix (256 + k) (first-in ix x)) (512 + x) k)
-  linking-more before ix after k x a h e small l =
-      record {
-        size = length-two ix _ _ _ _ ∙ l .size;
-        place = λ j p. elsewhere j (omega arith) (omega arith) ∙ l .place j p;
-        level = λ y p. elsewhere (576 + y) (omega arith) (omega arith) ∙ l .level y p;
-        first = λ y p. first-of y p (eq-or-ne y x);
-        next = λ j p q. next-of j p q (eq-or-ne j k);
-      }
-    where
-      new : List ℕ
-      new = set (set ix (256 + k) (first-in ix x)) (512 + x) k
+  module _ (ix : List ℕ) (after : ℕ) (some : 0 < after) (top : after ≤ n) (t : Linking ρs after before ix) where
+    h : after - 1 < length ρs
+    h = omega (arith, l .count)
 
-      elsewhere : (m : ℕ) → (m ≡ 256 + k → ⊥) → (m ≡ 512 + x → ⊥) → getD new m 0 ≡ getD ix m 0
-      elsewhere = two-other ix (256 + k) (512 + x) (first-in ix x) k
+    -- the right role of the rule before
+    role : right-in ix (after - 1) ≡ rule ρs (after - 1) .right
+    role =
+        t .kept (14 * (after - 1)) (omega (arith, l .few)) (λ j e. omega arith) ∙ l .role (after - 1) (omega arith)
 
-      later : (y : ℕ) → y < 64 → Link ρs y (suc k) (first-in ix y)
-      later y p = rw (← a) (l .first y p)
+    pub role-small : right-in ix (after - 1) < 128
+    role-small = rw role (l .small (after - 1) (omega arith))
 
-      first-of : (y : ℕ) → y < 64 → (y ≡ x) ⊎ (y ≡ x → ⊥) → Link ρs y k (first-in new y)
-      first-of y p (inl q) = rw (q, two-second ix (256 + k) (512 + x) _ k (omega (arith, l .size)), e) (link-here ρs few k h)
-      first-of y p (inr q) =
-          rw (elsewhere (512 + y) (omega arith) (omega arith))
-          (link-other ρs few k h y (first-in ix y) (λ i. q (sym i ∙ sym e)) (later y p))
+    module _ (x : ℕ) (q : x ≡ name (right-in ix (after - 1))) where
+      e : x ≡ name (rule ρs (after - 1) .right)
+      e = q ∙ ap name role
 
-      next-of : (j : ℕ) → k ≤ j → j < length ρs → (j ≡ k) ⊎ (j ≡ k → ⊥) → Link ρs (name (rule ρs j .right)) (suc j) (next-in new j)
-      next-of j p q (inl i) = rw (i, two-first ix (256 + k) (512 + x) _ k (omega (arith, l .size)) (omega arith), ← e) (later x small)
-      next-of j p q (inr i) = rw (elsewhere (256 + j) (omega arith) (omega arith)) (l .next j (omega arith) q)
+      pub name-small : x < 64
+      unfolding name
+      name-small = omega (arith, q, role-small)
+
+      abbrev new : List ℕ
+      new = set (set ix (14 * (after - 1) + 5) (first-in ix x)) (3584 + x) (after - 1)
+
+      elsewhere : (m : ℕ) → (m ≡ 14 * (after - 1) + 5 → ⊥) → (m ≡ 3584 + x → ⊥) → getD new m 0 ≡ getD ix m 0
+      elsewhere = two-other ix (14 * (after - 1) + 5) (3584 + x) (first-in ix x) (after - 1)
+
+      later : (y : ℕ) → y < 64 → Link ρs y (suc (after - 1)) (first-in ix y)
+      later y p = let a : suc (after - 1) ≡ after = omega arith in rw a (t .first y p)
+
+      first-of : (y : ℕ) → y < 64 → (y ≡ x) ⊎ (y ≡ x → ⊥) → Link ρs y (after - 1) (first-in new y)
+      first-of y p (inl i) =
+          rw (i, two-second ix (14 * (after - 1) + 5) (3584 + x) _ (after - 1) (omega (arith, t .size)), e) (link-here ρs few (after - 1) h)
+      first-of y p (inr i) =
+          rw (elsewhere (3584 + y) (omega (arith, few, h)) (omega arith))
+          (link-other ρs few (after - 1) h y (first-in ix y) (λ w. i (sym w ∙ sym e)) (later y p))
+
+      next-of : (j : ℕ) → after - 1 ≤ j → j < length ρs → (j ≡ after - 1) ⊎ (j ≡ after - 1 → ⊥)
+          → Link ρs (name (rule ρs j .right)) (suc j) (next-in new j)
+      next-of j p b (inl i) =
+          rw (i, two-first ix (14 * (after - 1) + 5) (3584 + x) _ (after - 1) (omega (arith, t .size, few, h)) (omega (arith, few, h)), ← e)
+          (later x name-small)
+      next-of j p b (inr i) = rw (elsewhere (14 * j + 5) (omega arith) (omega (arith, few))) (t .next j (omega arith) b)
+
+      pub linking-more : Linking ρs (after - 1) before new
+      linking-more =
+          record {
+            size = length-two ix _ _ _ _ ∙ t .size;
+            kept = λ m p w. elsewhere m (w (after - 1)) (omega arith) ∙ t .kept m p w;
+            level = λ y p. elsewhere (3648 + y) (omega (arith, few, h)) (omega (arith, name-small)) ∙ t .level y p;
+            first = λ y p. first-of y p (eq-or-ne y x);
+            next = λ j p b. next-of j p b (eq-or-ne j (after - 1));
+          }

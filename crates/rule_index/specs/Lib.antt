@@ -1,7 +1,7 @@
 pub mod RuleLinks
 pub mod RuleIndex
+pub mod ShapeNumbers
 pub mod Filling
 pub mod FillingLaws
-pub mod BookIndexLaws
-pub mod Facing
-pub mod RuleIndexLaws
+pub mod Indexes
+pub mod IndexesLaws

@@ -1,0 +1,30 @@
+-- `numbers_of` meets its contract, by the shape.
+use mathlib.Core.Path.{sym, ap, _∙_}
+use borrow.Author.Needs.{needs}
+use Rattle.rule_index.specs.ShapeNumbers.{numbers}
+use Rattle.rule_index.proofs.numbers.numbers_of.Statement.{statement}
+use Rattle.rule_index.proofs.numbers.numbers_of.Tie as tie
+
+returns : tie.Need-returns
+returns c = c .bare .ensures ∙ sym (ap numbers (c .before .enum-told .given .1))
+
+returns-2 : tie.Need-returns-2
+returns-2 c = c .bare2 .ensures ∙ sym (ap numbers (c .before .enum-told2 .given .1))
+
+returns-3 : tie.Need-returns-3
+returns-3 c = sym (ap numbers (c .before .before .before .shape .given .1))
+
+pub numbers-of-spec : {M : Type 1} → statement M
+numbers-of-spec =
+    tie.close
+    (tie.spec
+    (λ c. search needs)
+    (λ c κs. search needs)
+    (λ c. search needs)
+    (λ c κs. search needs)
+    (λ c. search needs)
+    (λ c. search needs)
+    (λ c. search needs)
+    returns
+    returns-2
+    returns-3)
