@@ -5,3 +5,5 @@ pub mod Filling
 pub mod FillingLaws
 pub mod Indexes
 pub mod IndexesLaws
+pub mod RuleIndexLaws
+pub mod Facing

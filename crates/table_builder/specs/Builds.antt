@@ -27,7 +27,7 @@ says (Refused refusal) = refused (cause-of refusal) (value-of refusal)
 pub record Prepared (s ix : List ℕ) (names : ℕ) : Type 0 where
   pub book : Book
   pub ordered : Ordered.ordered s ≡ ok book
-  pub index : Indexed s (book .rules) ix
+  pub index : Indexed (book .rules) ix
   pub same : names ≡ book .names
   pub few : names ≤ 64
   pub levels : (x : ℕ) → x < names → level-in ix x < names

@@ -23,7 +23,7 @@ use Rattle.refusals.specs.Refusal.{cause-of, value-of}
 use Rattle.table_builder.specs.declared.Counts.{Counts}
 use Rattle.table_builder.specs.declared.Outcome.the-variants.{Built, Refused}
 use Rattle.table_builder.specs.declared.lay.Place.{Place}
-use Rattle.table_builder.specs.Lay.{Roots}
+use Rattle.table_builder.specs.Lay.{Counted, Roots}
 use Rattle.table_builder.specs.Builds.{counts-of, Prepared, Builds}
 
 -- a refusal changes nothing
@@ -45,10 +45,10 @@ module _ (s ix : List ℕ) (names : ℕ) (p : Prepared s ix names) where
   pub fuel-enough : (x : ℕ) → x < names → level-in ix x < p .book .names
   fuel-enough x h = rw (← p .same) (p .levels x h)
 
-  -- what was laid
-  module _ (r : Place) (h h′ m m′ : List ℕ) (w : Roots (p .book .rules) (p .book .names) names r h h′ m m′) where
-    own : Roots (p .book .rules) (p .book .names) (p .book .names) r h h′ m m′
-    own = subst (λ (n : ℕ). Roots (p .book .rules) (p .book .names) n r h h′ m m′) (p .same) w
+  -- what was counted
+  module _ (r : Place) (w : Counted (p .book .rules) (p .book .names) names r) where
+    own : Counted (p .book .rules) (p .book .names) (p .book .names) r
+    own = subst (λ (n : ℕ). Counted (p .book .rules) (p .book .names) n r) (p .same) w
 
     too-large : 2048 < r .state → 2048 < states-of (p .book)
     too-large h = by-size (lt-or-le 2048 (states-of (p .book)))
@@ -94,18 +94,21 @@ module _ (s ix : List ℕ) (names : ℕ) (p : Prepared s ix names) where
         counted-short heads moves h = built-short s heads moves (p .book) accepts (rw (p .same, same-count) at h)
 
   -- what was counted first and then laid in the lent tables is what a build promises
-  module _ (r : Place) (h h′ m m′ : List ℕ) (w : Roots (p .book .rules) (p .book .names) names r h h′ m m′)
-      (q : Place) (g g′ n n′ : List ℕ) (v : Roots (p .book .rules) (p .book .names) names q g g′ n n′) where
+  module _ (r : Place) (w : Counted (p .book .rules) (p .book .names) names r) (q : Place) (g g′ n n′ : List ℕ)
+      (v : Roots (p .book .rules) (p .book .names) names q g g′ n n′) where
+    laid : Roots (p .book .rules) (p .book .names) (p .book .names) q g g′ n n′
+    laid = subst (λ (k : ℕ). Roots (p .book .rules) (p .book .names) k q g g′ n n′) (p .same) v
+
     pub builds-laid : leb (r .state) 2048 ≡ true → leb (r .count) 5120 ≡ true → (leb names (length g) && leb (3 * r .count) (length n)) ≡ true
         → Builds s g n g′ n′ (Built (record { names = names; states = r .state; transitions = r .count }))
     builds-laid small short long =
-        let count : r .count ≡ count-of (p .book) = same-count r h h′ m m′ w small in
+        let count : r .count ≡ count-of (p .book) = same-count r w small in
         let heads : p .book .names ≤ length g = rw (← p .same) (leb-true _ _ (and-left (leb names (length g)) _ long)) in
         let moves : 3 * count-of (p .book) ≤ length n = rw (← count) (leb-true _ _ (and-right (leb names (length g)) _ long)) in
         let size = length-roots (p .book .rules) (p .book .names) (p .book .names) 0 0 in
         builds-ok s g n g′ n′ (p .book) _
-        (accepted-built s (length g) (length n) (p .book) (accepts r h h′ m m′ w small short) heads moves)
-        (rw (p .same, same-states r h h′ m m′ w small, count) refl)
-        (own q g g′ n n′ v .places (whole r h h′ m m′ w small) ∙ sets-over (heads-of (p .book)) g (rw size heads))
-        (own q g g′ n n′ v .exact (whole r h h′ m m′ w small) (below r h h′ m m′ w small) moves
+        (accepted-built s (length g) (length n) (p .book) (accepts r w small short) heads moves)
+        (rw (p .same, same-states r w small, count) refl)
+        (laid .places (whole r w small) ∙ sets-over (heads-of (p .book)) g (rw size heads))
+        (laid .exact (whole r w small) (below r w small) moves
         ∙ sets-over (moves-of (p .book)) n (rw length-numbers moves))

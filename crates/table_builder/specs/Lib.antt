@@ -1,9 +1,9 @@
-pub mod Lay
 pub mod Memo
+pub mod Lay
+pub mod Row
 pub mod ShiftLaws
-pub mod LayLaws
 pub mod RowLaws
-pub mod RowsLaws
+pub mod RulesLaws
 pub mod FragmentLaws
 pub mod MemoLaws
 pub mod AgainLaws
@@ -12,4 +12,3 @@ pub mod Builds
 pub mod WrittenLaws
 pub mod CountedLaws
 pub mod BuildsLaws
-pub mod RuleRowLaws

@@ -45,9 +45,9 @@ abbrev pub Held : List ℕ → ℕ → Place → List ℕ → ℕ → (ℕ → L
 Held memo r q n z at = Kept (size-in memo r) (start-in memo r) (count-in memo r) (state-in memo r) q n z at
 
 -- each role that the memo has a size for is held
-pub record Memo (book index memo : List ℕ) (q : Place) (n : List ℕ) : Type 0 where
+pub record Memo (index memo : List ℕ) (q : Place) (n : List ℕ) : Type 0 where
   pub size : length memo ≡ 512
-  pub held : (r : ℕ) → r < 128 → 0 < size-in memo r → (ρs : List Rule) → Indexed book ρs index → (fuel : ℕ) → level-in index (name r) < fuel
+  pub held : (r : ℕ) → r < 128 → 0 < size-in memo r → (ρs : List Rule) → Indexed ρs index → (fuel : ℕ) → level-in index (name r) < fuel
       → Held memo r q n (size-of ρs fuel r) (transitions-of ρs fuel r)
 
 -- the numbers vs are those of some transitions in a table, with a number added to their states

@@ -15,8 +15,7 @@ use Rattle.table_laying.specs.Pieces.{length-numbers}
 use Rattle.table_laying.specs.Laid.{laid-none, getD-before, getD-stored}
 use Rattle.table_laying.specs.Fragment.{laid-states}
 use Rattle.table_laying.specs.ShiftedLaws.{fragment-shifted}
-use Rattle.table_builder.specs.Lay.{Lays}
-use Rattle.table_builder.specs.FragmentLaws.{Fragment-laid}
+use Rattle.table_builder.specs.Lay.{Lays, Added, begun, Fragment-of}
 use Rattle.table_builder.specs.Memo.{size-in, start-in, count-in, state-in, stored, Sound, Kept, Held, Memo}
 use Rattle.table_builder.specs.declared.lay.Place.{Place}
 
@@ -49,7 +48,7 @@ pub laid-after : (z : ℕ) (ts : List Transition) (p : Place) (m : List ℕ) (q 
 laid-after z ts p m q n a s = let x = exactly z ts p m q n a s in (omega (arith, x .state), omega (arith, x .count))
 
 -- more is laid
-module _ (z : ℕ) (ts : List Transition) (p : Place) (m : List ℕ) (q : Place) (n : List ℕ) (a : Lays z ts p m q n) (same : length n ≡ length m) where
+module _ {z : ℕ} {ts : List Transition} {p : Place} {m : List ℕ} {q : Place} {n : List ℕ} (a : Lays z ts p m q n) (same : length n ≡ length m) where
   kept-step : (size start count state : ℕ) (y : ℕ) (at : ℕ → List Transition) → Kept size start count state p m y at → Kept size start count state q n y at
   kept-step size start count state y at k =
       record {
@@ -69,21 +68,20 @@ module _ (z : ℕ) (ts : List Transition) (p : Place) (m : List ℕ) (q : Place)
         moved = k .moved;
       }
 
-  pub memo-step : (book index memo : List ℕ) → Memo book index memo p m → Memo book index memo q n
-  memo-step book index memo k =
+  pub memo-step : {index memo : List ℕ} → Memo index memo p m → Memo index memo q n
+  memo-step k =
       record { size = k .size; held = λ r h l ρs i fuel f. kept-step _ _ _ _ _ _ (k .held r h l ρs i fuel f) }
 
 -- two states and then transitions that take none
-pub memo-lettered : (book index memo : List ℕ) (p : Place) (m : List ℕ) (ts : List Transition) (q : Place) (n : List ℕ) → Memo book index memo p m
-    → Lays 0 ts (record { state = p .state + 2; count = p .count }) m q n → length n ≡ length m → Memo book index memo q n
-memo-lettered book index memo p m ts q n k a same =
-    let begun : Place = record { state = p .state + 2; count = p .count } in
-    memo-step 0 ts begun m q n a same book index memo
-    (memo-step (2 + 0) [] p m begun m (laid-states 0 [] (p .state) (p .count) m (p .state + 2) (p .count) m (laid-none (p .state + 2) (p .count) m)) refl book index memo k)
+pub memo-lettered : {index memo : List ℕ} {p : Place} {m : List ℕ} {ts : List Transition} {q : Place} {n : List ℕ} → Added ts (begun p) m q n → length n ≡ length m
+    → Memo index memo p m → Memo index memo q n
+memo-lettered {index} {memo} {p} {m} {ts} {q} {n} a same k =
+    memo-step {p = begun p} {q = q} (a .laid) same
+    (memo-step {p = p} {q = begun p} (laid-states 0 [] (p .state) (p .count) m (p .state + 2) (p .count) m (laid-none (p .state + 2) (p .count) m)) refl k)
 
 -- a memo of nothing
-pub memo-none : (book index memo : List ℕ) (q : Place) (n : List ℕ) → length memo ≡ 512 → ((r : ℕ) → r < 128 → size-in memo r ≡ 0) → Memo book index memo q n
-memo-none book index memo q n s e =
+pub memo-none : {index memo : List ℕ} {q : Place} {n : List ℕ} → length memo ≡ 512 → ((r : ℕ) → r < 128 → size-in memo r ≡ 0) → Memo index memo q n
+memo-none s e =
     record { size = s; held = λ r h l ρs i fuel f. absurd (let g : ⊥ = omega (arith, e r h) in g) }
 
 -- the numbers stored, and all others
@@ -139,9 +137,9 @@ module _ (memo : List ℕ) (r : ℕ) (p q : Place) (size : length memo ≡ 512) 
   stored-state = getD-set-same m₃ (384 + r) (p .state) 0 (omega (arith, length₃))
 
 -- a fragment that was laid between two places
-module _ (book index : List ℕ) (r : ℕ) (p : Place) (m : List ℕ) (q : Place) (n : List ℕ) (laid : Fragment-laid book index r p m q n)
+module _ (index : List ℕ) (r : ℕ) (p : Place) (m : List ℕ) (q : Place) (n : List ℕ) (laid : Fragment-of index r p m q n)
     (same : length n ≡ length m) where
-  laid-kept : Sound q → (ρs : List Rule) → Indexed book ρs index → (fuel : ℕ) → level-in index (name r) < fuel
+  laid-kept : Sound q → (ρs : List Rule) → Indexed ρs index → (fuel : ℕ) → level-in index (name r) < fuel
       → Kept (q .state - p .state) (p .count) (q .count - p .count) (p .state) q n (size-of ρs fuel r) (transitions-of ρs fuel r)
   laid-kept s ρs i fuel f =
       let x = exactly (size-of ρs fuel r) (transitions-of ρs fuel r (p .state)) p m q n (laid ρs i fuel f) s in
@@ -158,12 +156,12 @@ module _ (book index : List ℕ) (r : ℕ) (p : Place) (m : List ℕ) (q : Place
       }
 
   -- is put down
-  pub memo-kept : (memo memo′ : List ℕ) → r < 128 → (memo′ ≡ memo) ⊎ (Sound q × (memo′ ≡ stored memo r p q)) → Memo book index memo q n → Memo book index memo′ q n
+  pub memo-kept : (memo memo′ : List ℕ) → r < 128 → (memo′ ≡ memo) ⊎ (Sound q × (memo′ ≡ stored memo r p q)) → Memo index memo q n → Memo index memo′ q n
   memo-kept memo memo′ h (inl e) k = rw e k
   memo-kept memo memo′ h (inr (s, e)) k =
       rw e (record { size = stored-size memo r p q (k .size) h; held = λ x l g ρs i fuel f. by-role x l g ρs i fuel f (eq-or-ne x r) })
     where
-      by-role : (x : ℕ) → x < 128 → 0 < size-in (stored memo r p q) x → (ρs : List Rule) → Indexed book ρs index → (fuel : ℕ) → level-in index (name x) < fuel
+      by-role : (x : ℕ) → x < 128 → 0 < size-in (stored memo r p q) x → (ρs : List Rule) → Indexed ρs index → (fuel : ℕ) → level-in index (name x) < fuel
           → (x ≡ r) ⊎ (x ≡ r → ⊥) → Held (stored memo r p q) x q n (size-of ρs fuel x) (transitions-of ρs fuel x)
       by-role x l g ρs i fuel f (inl d) =
           rw (d, stored-states memo r p q (k .size) h, stored-start memo r p q (k .size) h, stored-count memo r p q (k .size) h, stored-state memo r p q (k .size) h)

@@ -5,12 +5,10 @@ use Prim.Native.Nat.{ℕ, _+_, _*_, _<_, _≤_}
 use native.Mathlib.Nat.{zero-add}
 use native.Mathlib.Omega.{arith}
 use lib.ListN.{length, set, length-set}
-use Rattle.roles.specs.Role.{name}
 use Rattle.roles.specs.Rule.{Rule}
-use Rattle.tables.specs.Tables.{size-of, transitions-of}
-use Rattle.rule_index.specs.RuleIndex.{Indexed, level-in}
+use Rattle.rule_index.specs.RuleIndex.{Indexed}
 use Rattle.table_laying.specs.RootsLeft.{name-twice, RootsLaid, RootsLeft, roots-left-start, roots-left-next, roots-left-end}
-use Rattle.table_builder.specs.Lay.{Small, Lays, Roots}
+use Rattle.table_builder.specs.Lay.{Small, Fragment-of, Enough, Roots}
 use Rattle.table_builder.specs.declared.lay.Place.{Place}
 
 -- all roots, read off what is laid from state 0 on
@@ -18,23 +16,22 @@ roots-all : (ρs : List Rule) (fuel names : ℕ) (r : Place) (h h′ m m′ : Li
     → RootsLaid ρs fuel names 0 0 0 h m (r .state) (r .count) h′ m′ → Roots ρs fuel names r h h′ m m′
 roots-all ρs fuel names r h h′ m m′ a =
     record {
-      within = λ l. rw zero-add at (a .laid .within (rw zero-add l));
-      over = λ l. a .laid .over (rw zero-add l);
-      count = λ l g. rw zero-add at (a .laid .count (rw zero-add l) (rw zero-add g));
+      counted =
+          record {
+            within = λ l. rw zero-add at (a .laid .within (rw zero-add l));
+            over = λ l. a .laid .over (rw zero-add l);
+            count = λ l g. rw zero-add at (a .laid .count (rw zero-add l) (rw zero-add g));
+          };
       exact = λ l g f. a .laid .exact (rw zero-add l) (rw zero-add g) (rw zero-add f);
       places = λ l. a .heads (rw zero-add l);
     }
 
-module _ (book index : List ℕ) (names : ℕ) (h m : List ℕ) where
-  -- fuel for the roots of all names
-  abbrev pub Enough : ℕ → Type 0
-  Enough fuel = (x : ℕ) → x < names → level-in index x < fuel
-
+module _ (index : List ℕ) (names : ℕ) (h m : List ℕ) where
   pub record Rooting (q : Place) (g n : List ℕ) (x : ℕ) : Type 0 where
     pub small : Small q
     pub heads : length g ≡ length h
     pub moves : length n ≡ length m
-    pub left : (ρs : List Rule) → Indexed book ρs index → (fuel : ℕ) → Enough fuel → RootsLeft ρs fuel names h m x (q .state) (q .count) g n
+    pub left : (ρs : List Rule) → Indexed ρs index → (fuel : ℕ) → Enough index names fuel → RootsLeft ρs fuel names h m x (q .state) (q .count) g n
 
   pub rooting-start : Rooting (record { state = 0; count = 0 }) h m 0
   rooting-start =
@@ -47,8 +44,7 @@ module _ (book index : List ℕ) (names : ℕ) (h m : List ℕ) where
 
   module _ (q : Place) (g n : List ℕ) (x : ℕ) (a : Rooting q g n x) where
     pub rooting-next : x < names → (f : List ℕ) → f ≡ set g x (q .state) → (v : Place) (o : List ℕ) → Small v → length o ≡ length n
-        → ((ρs : List Rule) → Indexed book ρs index → (fuel : ℕ) → level-in index (name (2 * x)) < fuel
-        → Lays (size-of ρs fuel (2 * x)) (transitions-of ρs fuel (2 * x) (q .state)) q n v o)
+        → Fragment-of index (2 * x) q n v o
         → Rooting v f o (x + 1)
     rooting-next l f p v o s z b =
         record {
@@ -60,5 +56,5 @@ module _ (book index : List ℕ) (names : ℕ) (h m : List ℕ) where
               (b ρs i fuel (rw (name-twice x) (e x l))));
         }
 
-    pub rooting-end : names ≤ x → (ρs : List Rule) → Indexed book ρs index → (fuel : ℕ) → Enough fuel → Roots ρs fuel names q h g m n
+    pub rooting-end : names ≤ x → (ρs : List Rule) → Indexed ρs index → (fuel : ℕ) → Enough index names fuel → Roots ρs fuel names q h g m n
     rooting-end l ρs i fuel e = roots-all ρs fuel names q h g m n (roots-left-end ρs fuel names h m x (q .state) (q .count) g n (a .left ρs i fuel e) l)

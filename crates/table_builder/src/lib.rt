@@ -1,17 +1,17 @@
 // The table builder: causes 1 to 11, and the tables of an accepted book in lent memory.
 ghost use mathlib.Core.Bool.{_&&_};
 ghost use mathlib.Core.Path.{_≡_};
-ghost use Prim.Native.Nat.{_*_, _≤_};
+ghost use mathlib.Core.List.{List};
+ghost use Prim.Native.Nat.{ℕ, _*_, _≤_};
 ghost use lib.Dec.{leb};
 ghost use Rattle.refusals.specs.Check.{check};
 ghost use Rattle.table_builder.specs.Builds.{Prepared, Builds};
 
-mod index;
 mod lay;
 mod memo;
 
 use book_decoder::Verdict;
-use index::fill;
+use lay::count;
 use lay::roots;
 use refusals::Check;
 use refusals::Refusal;
@@ -33,49 +33,36 @@ pub enum Outcome {
 pub fn build(book: &[u8], heads: &mut [u16], moves: &mut [u16]) -> Outcome
     ensures { λ r. ⌜ Builds (now (book .entry)) (now (heads .entry)) (now (moves .entry)) (now (heads .exit)) (now (moves .exit)) r ⌝ }
 {
-    let ordering = order_checker::order(book);
-    let verdict = ordering.verdict;
-    match verdict {
+    let mut index = [0u16; 3712];
+    match rule_index::index(book, &mut index) {
         Verdict::Refused(refusal) => Outcome::Refused(refusal),
-        Verdict::WellFormed(header) => {
-            let levels = ordering.levels;
-            let mut index = [0u16; 640];
-            fill(book, header.rules, &levels, &mut index);
-            lay_tables(book, &index, header.names, heads, moves)
-        }
+        Verdict::WellFormed(header) => lay_tables(&index, header.names, heads, moves),
     }
 }
 
-// Builds the tables of an ordered book through its index: first where there is no room, to learn their sizes, then in the lent ones.
-fn lay_tables(
-    book: &[u8],
-    index: &[u16],
-    names: usize,
-    heads: &mut [u16],
-    moves: &mut [u16],
-) -> Outcome
-    requires { ⌜ Prepared (now book) (now index) names ⌝ }
-    ensures { λ r. ⌜ Builds (now (book .entry)) (now (heads .entry)) (now (moves .entry)) (now (heads .exit)) (now (moves .exit)) r ⌝ }
+// Builds the tables of an ordered book through its index: first counted, to learn their sizes, then laid in the lent ones.
+fn lay_tables(index: &[u16], names: usize, heads: &mut [u16], moves: &mut [u16]) -> Outcome
+    requires { ⌜ ((s : List ℕ) × Prepared s (now index) names) ⌝ }
+    ensures { λ r. ⌜ ((s : List ℕ) → Prepared s (now (index .entry)) names
+        → Builds s (now (heads .entry)) (now (moves .entry)) (now (heads .exit)) (now (moves .exit)) r) ⌝ }
 {
-    let mut no_heads = [0u16; 1];
-    let mut no_moves = [0u16; 1];
-    let end = roots(book, index, names, &mut no_heads, &mut no_moves);
+    let end = count(index, names);
     let states = end.state;
-    let count = end.count;
+    let transitions = end.count;
     let Check::Passed = few_states(states) else {
         return Outcome::Refused(Refusal::States);
     };
-    let Check::Passed = few_transitions(count) else {
+    let Check::Passed = few_transitions(transitions) else {
         return Outcome::Refused(Refusal::Transitions);
     };
-    let Check::Passed = long_enough(names, count, heads.len(), moves.len()) else {
+    let Check::Passed = long_enough(names, transitions, heads.len(), moves.len()) else {
         return Outcome::Refused(Refusal::Short);
     };
-    roots(book, index, names, heads, moves);
+    roots(index, names, heads, moves);
     Outcome::Built(Counts {
         names: names,
         states: states,
-        transitions: count,
+        transitions: transitions,
     })
 }
 

@@ -2,28 +2,26 @@
 use mathlib.Core.Path.{refl}
 use native.Mathlib.Omega.{arith}
 use lib.ListN.{length-set}
-use Rattle.table_laying.specs.Laid.{laid-one, laid-full, laid-short, laid-past}
+use borrow.Author.Tests.{not-true, not-false}
+use Rattle.table_laying.specs.Laid.{laid-none, laid-one, laid-full, laid-short, laid-past}
 use borrow.Author.Needs.{needs}
 use Rattle.table_builder.proofs.lay.transition.Statement.{statement}
 use Rattle.table_builder.proofs.lay.transition.Tie as tie
 
 returns : tie.Need-returns
-returns c = (c .before .pre .0, (refl, laid-past _ _ _ _ (c .if1 .taken)))
+returns c = record { small = c .before .pre .0; same = refl; laid = rw (not-true (c .before .args .present) (c .if1 .taken)) (laid-none _ _ _) }
 
 returns-2 : tie.Need-returns-2
-returns-2 c = (c .before .before .pre .0, (refl, laid-full _ _ _ _ (c .if2 .taken)))
+returns-2 c = record { small = c .before .before .pre .0; same = refl; laid = rw (not-false (c .before .before .args .present) (c .before .if1 .left)) (laid-past _ _ _ _ (c .if2 .taken)) }
 
 returns-3 : tie.Need-returns-3
-returns-3 c = (record { state = c .before .before .before .pre .0 .state; count = omega (arith, c .before .if2 .left) }, (refl, laid-short _ _ _ _ (c .if3 .taken)))
-
-slice-write-moves-2 : tie.Need-slice-write-moves-2
-slice-write-moves-2 c = simp length-set (omega (arith, c .if3 .left))
-
-slice-write-moves-3 : tie.Need-slice-write-moves-3
-slice-write-moves-3 c = simp length-set (omega (arith, c .if3 .left))
+returns-3 c = record { small = c .before .before .before .pre .0; same = refl; laid = rw (not-false (c .before .before .before .args .present) (c .before .before .if1 .left)) (laid-full _ _ _ _ (c .if3 .taken)) }
 
 returns-4 : tie.Need-returns-4
-returns-4 c = (record { state = c .before .before .before .pre .0 .state; count = omega (arith, c .before .if2 .left) }, (refl, laid-one (record { from = c .before .before .before .args .from; label = c .before .before .before .args .label; to = c .before .before .before .args .to }) (c .before .before .before .args .place .state) (c .before .before .before .args .place .count) (c .before .before .before .args .moves .now)))
+returns-4 c = record { small = record { state = c .before .before .before .before .pre .0 .state; count = omega (arith, c .before .if3 .left) }; same = refl; laid = rw (not-false (c .before .before .before .before .args .present) (c .before .before .before .if1 .left)) (laid-short _ _ _ _ (c .if4 .taken)) }
+
+returns-5 : tie.Need-returns-5
+returns-5 c = record { small = record { state = c .before .before .before .before .pre .0 .state; count = omega (arith, c .before .if3 .left) }; same = refl; laid = rw (not-false (c .before .before .before .before .args .present) (c .before .before .before .if1 .left)) (laid-one _ _ _ _) }
 
 pub transition-spec : {M : Type 1} → statement M
 transition-spec =
@@ -31,24 +29,25 @@ transition-spec =
     (tie.spec
     returns
     returns-2
-    (λ c. search needs)
-    (λ c. search needs)
-    (λ c. search needs)
     returns-3
     (λ c. search needs)
     (λ c. search needs)
     (λ c. search needs)
+    returns-4
     (λ c. search needs)
     (λ c. search needs)
     (λ c. search needs)
     (λ c. search needs)
     (λ c. search needs)
-    slice-write-moves-2
+    (λ c. search needs)
+    (λ c. search needs)
+    (λ c. search needs)
+    (λ c. simp length-set (omega (arith, c .if4 .left)))
     (λ c. search needs)
     (λ c. search needs)
     (λ c. search needs)
     (λ c. search needs)
-    slice-write-moves-3
+    (λ c. simp length-set (omega (arith, c .if4 .left)))
     (λ c. search needs)
     (λ c. search needs)
-    returns-4)
+    returns-5)
