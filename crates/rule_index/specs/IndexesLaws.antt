@@ -22,7 +22,7 @@ use Rattle.book_format.specs.DecodeLaws.{Decoded, decoded}
 use Rattle.book_format.specs.ReadLaws.{read-decode, read-whole, read-named, named-name, named-member, rules-named, read-few-names}
 use Rattle.book_causes.specs.Ordered.{ordered}
 use Rattle.book_causes.specs.OrderedRun.{ordered-read}
-use Rattle.book_decoder.specs.declared.verdict.Header.{Header}
+use Rattle.book_header.specs.declared.Header.{Header}
 use Rattle.book_decoder.specs.declared.verdict.Verdict.the-variants.{WellFormed}
 use Rattle.book_decoder.specs.Verdict.{header-of, says}
 use Rattle.order_checker.specs.declared.Ordering.{Ordering}

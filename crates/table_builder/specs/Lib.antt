@@ -2,10 +2,10 @@ pub mod Memo
 pub mod Lay
 pub mod Row
 pub mod ShiftLaws
+pub mod MemoLaws
 pub mod RowLaws
 pub mod RulesLaws
 pub mod FragmentLaws
-pub mod MemoLaws
 pub mod AgainLaws
 pub mod RootsLaws
 pub mod Builds
