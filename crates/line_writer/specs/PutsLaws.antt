@@ -89,12 +89,9 @@ puts-next out text out₁ at i long h p =
 pub puts-all : (out text out₁ : List ℕ) (at i : ℕ) → length text ≤ i → Puts out at (take i text) out₁ (at + i) → Puts out at text out₁ (at + i)
 puts-all out text out₁ at i h p = rw (take-all i text h) at p
 
--- the same text under another name, and a bound on where a short text ends
+-- the same text under another name
 pub puts-as : {out x y out′ : List ℕ} {at end : ℕ} → Puts out at x out′ end → x ≡ y → Puts out at y out′ end
 puts-as {out} {x} {y} {out′} {at} {end} p e = subst (λ (t : List ℕ). Puts out at t out′ end) e p
-
-pub puts-within : {out x out′ : List ℕ} {at end most : ℕ} → Puts out at x out′ end → length x ≤ most → end ≤ at + most
-puts-within {out} {x} {out′} {at} {end} {most} p h = let e : end ≡ at + length x = p .ends in omega arith
 
 -- what is put at the front can be lent as the front of the buffer
 pub puts-counts : {out text out′ : List ℕ} {at end : ℕ} → Puts out at text out′ end → Counts end out′

@@ -1,16 +1,16 @@
 -- What answering the questions of a block promises.
-use mathlib.Core.Bool.{true, false}
+use mathlib.Core.Bool.{Bool, false}
 use mathlib.Core.List.{List, _++_}
+use mathlib.Core.Logic.{_⊎_}
 use mathlib.Core.Path.{_≡_}
-use Prim.Native.Nat.{ℕ, _+_, _-_, _<_, _≤_}
+use Prim.Native.Nat.{ℕ, _+_, _-_, _*_, _<_, _≤_}
 use lib.ListN.{length, take, drop}
 use Rattle.query_causes.specs.Query.{Answered}
-use Rattle.query_causes.specs.Input.{Broken, is-whole}
-use Rattle.transcript_lines.specs.Block.{Block}
+use Rattle.query_causes.specs.Input.{is-whole}
+use Rattle.transcript_lines.specs.Block.{Stopped, Block}
 use Rattle.transcript_writer.specs.declared.block.Progress.{Progress}
 use Rattle.transcript_writer.specs.declared.block.Reached.{Reached}
-use Rattle.transcript_writer.specs.declared.block.Run.{Run}
-use Rattle.transcript_writer.specs.Puts.{Puts}
+use Rattle.line_writer.specs.Puts.{Puts}
 
 module _ (hs ms : List ℕ) where
   -- the block of the first `end` bytes of q is answered by the tables hs and ms: its lines stand at the front of the one buffer, what is not answered at
@@ -30,22 +30,30 @@ module _ (hs ms : List ℕ) where
     pub puts : Puts out 0 lines out′ (p .written)
     pub within : p .read ≤ length q
 
-  -- questions at the front of q are answered: what answers the rest completes the block
-  pub record Advanced (k : ℕ) (q out : List ℕ) (k′ read written : ℕ) (out′ : List ℕ) : Type 0 where
+  -- questions at the front of q are answered, and what answers the rest completes the block; there is room and there are numbers for `most` lines more,
+  -- and without such the block stops here
+  pub record Advanced (k : ℕ) (q out : List ℕ) (k′ read written most : ℕ) (out′ : List ℕ) : Type 0 where
     pub lines : List ℕ
     pub puts : Puts out 0 lines out′ written
+    pub same : length out′ ≡ length out
     pub within : read ≤ length q
     pub completes : (lines′ : List ℕ) (k″ : ℕ) (rest : List ℕ) → Block (Answered hs ms) k′ (drop read q) (length out - written) lines′ k″ rest
         → Block (Answered hs ms) k q (length out) (lines ++ lines′) k″ rest
+    pub few : most ≤ 1024
+    pub room : 64 * most ≤ length out - written
+    pub numbers : k′ + most ≤ 18446744073709551615
+    pub stops : most ≡ 0 → Stopped k′ (drop read q) (length out - written)
 
-  -- lines for questions at the front of s are put into the buffer at a place; the run goes on only where it has read some
-  pub record Runs (k : ℕ) (s out : List ℕ) (at : ℕ) (out′ : List ℕ) (r : Run) : Type 0 where
-    pub lines : List ℕ
-    pub puts : Puts out at lines out′ (r .written)
-    pub within : r .read ≤ length s
-    pub counted : k + r .answered ≤ 18446744073709551615
-    pub completes : (lines′ : List ℕ) (k″ : ℕ) (rest : List ℕ)
-        → Block (Answered hs ms) (k + r .answered) (drop (r .read) s) (length out - r .written) lines′ k″ rest
-        → Block (Answered hs ms) k s (length out - at) (lines ++ lines′) k″ rest
-    pub goes : r .follows ≡ true → 0 < r .read
-    pub ends : r .follows ≡ false → Broken (drop (r .read) s)
+-- the lesser of two numbers
+pub record Least (a b r : ℕ) : Type 0 where
+  pub left : r ≤ a
+  pub right : r ≤ b
+  pub either : (r ≡ a) ⊎ (r ≡ b)
+
+-- room and numbers for so many lines; none where there is no more question, no room or no number
+pub record LinesIn (more : Bool) (room k count : ℕ) : Type 0 where
+  pub few : count ≤ 1024
+  pub fits : 64 * count ≤ room
+  pub numbers : k + count ≤ 18446744073709551615
+  pub ends : more ≡ false → count ≡ 0
+  pub none : count ≡ 0 → (more ≡ false) ⊎ ((room < 64) ⊎ (18446744073709551615 ≤ k))

@@ -1,15 +1,15 @@
--- How the answers of a batch, run by run, and stopping give what a block promises.
-use mathlib.Core.Bool.{Bool, false}
-use mathlib.Core.List.{List, [], _∷_, _++_, append-assoc, append-nil}
+-- How the answers of batches, one after another, and stopping give what a block promises.
+use mathlib.Core.Bool.{Bool, true, false, true≢false}
+use mathlib.Core.List.{List, [], _++_, append-assoc, append-nil}
 use mathlib.Core.Logic.{_⊎_, inl, inr}
 use mathlib.Core.Path.{_≡_, refl, sym, ap, _∙_}
-use Prim.Native.Nat.{ℕ, suc, _+_, _-_, _*_, _<_, _≤_}
+use Prim.Native.Nat.{ℕ, suc, _+_, _-_, _*_, _/_, _<_, _≤_}
 use native.Mathlib.Omega.{arith}
-use borrow.Author.Tests.{eqb-true, eqb-false, le-leb}
+use borrow.Author.Tests.{eqb-true, eqb-false}
 use lib.Dec.{eqb}
 use lib.ListN.{length, getD, take, drop, length-append, length-drop}
-use lib.Seq.{drop-drop, take-suc, take-all, take-append-le, length-take-le}
-use Rattle.text_parts.specs.Text.{between}
+use lib.Seq.{slice, drop-drop, take-all, take-append-le, length-take-le}
+use Rattle.io.specs.Counts.{Counts}
 use Rattle.query_causes.specs.Query.{Answered}
 use Rattle.query_causes.specs.Input.{links-of, Broken, is-whole}
 use Rattle.transcript_lines.specs.Lines.{answer-line}
@@ -21,29 +21,63 @@ use Rattle.transcript_lines.specs.BlockLaws.{next-here}
 use Rattle.query_answerer.specs.Batch.{told, Batched, Batches}
 use Rattle.query_answerer.specs.Batch.Batched.{none, more}
 use Rattle.query_answerer.specs.declared.batch.Batch.{Batch}
+use Rattle.line_writer.specs.Puts.{Puts}
+use Rattle.line_writer.specs.PutsLaws.{puts-none, puts-then, puts-front, puts-length}
+use Rattle.line_writer.specs.Said.{answer-lines, WritesLines}
 use Rattle.transcript_writer.specs.declared.block.Reached.{Reached}
-use Rattle.transcript_writer.specs.declared.block.Run.{Run}
-use Rattle.transcript_writer.specs.Puts.{Puts}
-use Rattle.transcript_writer.specs.PutsLaws.{puts-none, puts-then, puts-as, puts-front, puts-length}
-use Rattle.transcript_writer.specs.Said.{answer-lines}
-use Rattle.transcript_writer.specs.Advances.{AnswersBlock, Advances, Advanced, Runs}
+use Rattle.transcript_writer.specs.Advances.{AnswersBlock, Advances, Advanced, Least, LinesIn}
 
--- one more line
-lines-more : (k : ℕ) (bytes : List ℕ) (byte : ℕ) → answer-lines k (bytes ++ (byte ∷ [])) ≡ answer-lines k bytes ++ answer-line (k + length bytes) (told byte)
-lines-more k [] byte =
-    let same : k + 0 ≡ k = omega arith in
-    rw same (append-nil (answer-line k (told byte)))
-lines-more k (b ∷ bytes) byte =
-    let sum : suc k + length bytes ≡ k + suc (length bytes) = omega arith in
-    rw (append-assoc (answer-line k (told b)) (answer-lines (suc k) bytes) (answer-line (k + suc (length bytes)) (told byte)), ← sum)
-    (ap (λ (s : List ℕ). answer-line k (told b) ++ s) (lines-more (suc k) bytes byte))
+-- the lesser of two numbers, or three times it, as how many of a list to take
+take-past : (s : List ℕ) (m n : ℕ) → (m ≡ n) ⊎ (length s ≤ m) → m ≤ n → take m s ≡ take n s
+take-past s m n (inl e) l = ap (λ (k : ℕ). take k s) e
+take-past s m n (inr h) l = take-all m s h ∙ sym (take-all n s (omega arith))
 
-pub lines-next : (k : ℕ) (bytes : List ℕ) (i : ℕ) → i < length bytes
-    → answer-lines k (take i bytes) ++ answer-line (k + i) (told (getD bytes i 0)) ≡ answer-lines k (take (i + 1) bytes)
-lines-next k bytes i l =
-    let one : i + 1 ≡ suc i = omega arith in
-    let size : length (take i bytes) ≡ i = length-take-le i bytes (omega arith) in
-    sym (rw (one, take-suc bytes i 0 l) (rw size at (lines-more k (take i bytes) (getD bytes i 0))))
+module _ {a b r : ℕ} (l : Least a b r) (s : List ℕ) where
+  pub least-counts : length s ≡ b → Counts r s
+  least-counts e = let within : r ≤ length s = omega (arith, l .right, e) in (within, sym (length-take-le r s within))
+
+  pub triples-count : length s ≡ 3 * b → Counts (3 * r) s
+  triples-count e = let within : 3 * r ≤ length s = omega (arith, l .right, e) in (within, sym (length-take-le (3 * r) s within))
+
+  pub take-least : length s ≡ b → take r s ≡ take a s
+  take-least e = take-past s r a (by-either (l .either)) (l .left)
+    where
+      by-either : (r ≡ a) ⊎ (r ≡ b) → (r ≡ a) ⊎ (length s ≤ r)
+      by-either (inl f) = inl f
+      by-either (inr f) = inr (omega (arith, e, f))
+
+  pub take-triples : length s ≡ 3 * b → take (3 * r) s ≡ take (3 * a) s
+  take-triples e = take-past s (3 * r) (3 * a) (by-either (l .either)) (omega (arith, l .left))
+    where
+      by-either : (r ≡ a) ⊎ (r ≡ b) → (3 * r ≡ 3 * a) ⊎ (length s ≤ 3 * r)
+      by-either (inl f) = inl (omega (arith, f))
+      by-either (inr f) = inr (omega (arith, e, f))
+
+-- how many lines there are room and numbers for
+pub lines-in : {more : Bool} {room k lines count : ℕ} → more ≡ true → Least (room / 64) 1024 lines → Least lines (18446744073709551615 - k) count
+    → k ≤ 18446744073709551615 → LinesIn more room k count
+lines-in {more} {room} {k} {lines} {count} t l m h =
+    record {
+      few = omega (arith, l .right, m .left);
+      fits = omega (arith, l .left, m .left);
+      numbers = omega (arith, m .right);
+      ends = λ e. absurd (true≢false (sym t ∙ e));
+      none = λ e. inr (by-either e (l .either) (m .either));
+    }
+  where
+    by-either : count ≡ 0 → (lines ≡ room / 64) ⊎ (lines ≡ 1024) → (count ≡ lines) ⊎ (count ≡ 18446744073709551615 - k)
+        → (room < 64) ⊎ (18446744073709551615 ≤ k)
+    by-either e f (inr g) = inr (omega (arith, e, g))
+    by-either e (inl f) (inl g) = inl (omega (arith, e, f, g))
+    by-either e (inr f) (inl g) = inl (omega (arith, e, f, g))
+
+pub no-lines-in : {more : Bool} {room k : ℕ} → more ≡ false → k ≤ 18446744073709551615 → LinesIn more room k 0
+no-lines-in e l = record { few = omega arith; fits = omega arith; numbers = omega arith; ends = λ f. refl; none = λ z. inl e }
+
+stops-by : {more : Bool} {q : List ℕ} {room k : ℕ} → (more ≡ false) ⊎ ((room < 64) ⊎ (18446744073709551615 ≤ k)) → (more ≡ false → Broken q) → Stopped k q room
+stops-by (inl e) broken = no-question (broken e)
+stops-by (inr (inl h)) broken = no-room h
+stops-by (inr (inr h)) broken = no-number h
 
 -- what answers of a batch say of its questions
 module _ (hs ms : List ℕ) where
@@ -75,114 +109,109 @@ module _ (hs ms : List ℕ) where
       rw (append-assoc (answer-line k (told byte)) (answer-lines (suc k) bytes) lines)
       (answered {k = k} {room = room} (next-here s w) (omega (arith, fits)) (omega (arith, few)) a ih)
 
--- the run that a batch gives, whose answers are lent the first `most` bytes of a buffer
-module _ (hs ms q : List ℕ) (most : ℕ) (buffer : List ℕ) (enough : most ≤ length buffer) (answers : List ℕ) (b : Batch) (p : Batches hs ms q (take most buffer) answers b) where
-  lent-size : length (take most buffer) ≡ most
-  lent-size = length-take-le most buffer enough
+-- nothing is read yet
+pub advanced-none : {hs ms q out : List ℕ} {k most : ℕ} → LinesIn true (length out) k most → Advanced hs ms k q out k 0 0 most out
+advanced-none {q = q} {out} {k} l =
+    let all : length out - 0 ≡ length out = omega arith in
+    record {
+      lines = [];
+      puts = puts-none out 0 (omega arith);
+      same = refl;
+      within = omega arith;
+      completes = λ lines k″ rest b. rw all at b;
+      few = l .few;
+      room = rw all (l .fits);
+      numbers = l .numbers;
+      stops = λ e. rw all (stops-by (l .none e) (λ f. absurd (true≢false f)));
+    }
 
-  pub lent-few : b .answered ≤ most
-  lent-few = omega (arith, p .fits, lent-size)
-
-  lent-long : b .answered ≤ length answers
-  lent-long = omega (arith, p .fits, p .same)
-
-  pub lent-fits : b .answered ≤ length (answers ++ drop most buffer)
-  lent-fits = omega (arith, lent-long, length-append answers (drop most buffer))
-
-  pub lent-taken : length (take (b .answered) (answers ++ drop most buffer)) ≡ b .answered
-  lent-taken = length-take-le (b .answered) (answers ++ drop most buffer) lent-fits
-
-  pub runs : (k : ℕ) (out : List ℕ) (at : ℕ) (out′ : List ℕ) (written : ℕ) → 1 ≤ most → 64 * most ≤ length out - at → k + most ≤ 18446744073709551615
-      → Puts out at (answer-lines k (take (b .answered) (answers ++ drop most buffer))) out′ written
-      → Runs hs ms k q out at out′ (record { answered = b .answered; read = b .read; written = written; follows = eqb (b .answered) most })
-  runs k out at out′ written some space few puts =
-      let same : take (b .answered) (answers ++ drop most buffer) ≡ take (b .answered) answers = take-append-le (b .answered) answers (drop most buffer) lent-long in
-      let long : length (take (b .answered) answers) ≡ b .answered = length-take-le (b .answered) answers lent-long in
+module _ {hs ms q out out′ : List ℕ} {k k′ read written most : ℕ} (a : Advanced hs ms k q out k′ read written most out′) where
+  -- no more lines
+  pub advances : most ≤ 0 → Advances hs ms k q out out′ (record { number = k′; read = read; written = written })
+  advances h =
       record {
-        lines = answer-lines k (take (b .answered) answers);
-        puts = rw same at puts;
-        within = batched-within hs ms q (b .read) (take (b .answered) answers) (p .written);
-        counted = omega (arith, lent-few);
-        completes = λ lines k″ rest t.
-            let ends : written ≡ at + length (answer-lines k (take (b .answered) answers)) = rw same at (puts .ends) in
-            let left : length out - at - length (answer-lines k (take (b .answered) answers)) ≡ length out - written = omega (arith, ends) in
-            batched-completes hs ms q (b .read) (take (b .answered) answers) (p .written) k (length out - at) lines k″ rest
-            (omega (arith, long, lent-few, space)) (omega (arith, long, lent-few, few)) (rw (long, left) t);
-        goes = λ h.
-            let all : b .answered ≡ most = eqb-true (b .answered) most h in
-            batched-some hs ms q (b .read) (take (b .answered) answers) (p .written) (rw long (omega arith));
-        ends = λ h. by-reason (eqb-false (b .answered) most h) (p .stopped);
-      }
-    where
-      by-reason : (b .answered ≡ most → ⊥) → (b .answered ≡ length (take most buffer)) ⊎ Broken (drop (b .read) q) → Broken (drop (b .read) q)
-      by-reason other (inl e) = absurd (other (e ∙ lent-size))
-      by-reason other (inr h) = h
-
-module _ (hs ms : List ℕ) (k : ℕ) (q out : List ℕ) where
-  -- nothing is read yet
-  pub advanced-none : Advanced hs ms k q out k 0 0 out
-  advanced-none =
-      record {
-        lines = [];
-        puts = puts-none out 0 (omega arith);
-        within = omega arith;
-        completes = λ lines k″ rest b. let all : length out - 0 ≡ length out = omega arith in rw all at b;
+        lines = a .lines;
+        block = rw (append-nil (a .lines)) at (a .completes [] k′ (drop read q) (stopped (a .stops (omega (arith, h)))));
+        puts = a .puts;
+        within = a .within;
       }
 
-  module _ (k′ read written : ℕ) (out′ : List ℕ) (a : Advanced hs ms k q out k′ read written out′) where
-    -- what is written is within the buffer
-    same-room : length out′ ≡ length out
-    same-room = puts-length out (a .lines) out′ 0 written (a .puts)
+  -- one more batch, whose answers are lent the first `most` bytes of a buffer
+  module _ (buffer : List ℕ) (long : length buffer ≡ 1024) {answers : List ℕ} {b : Batch}
+      (lent : Batches hs ms (take (length q - read) (drop read q)) (take most buffer) answers b) where
+    batch : Batches hs ms (drop read q) (take most buffer) answers b
+    batch = rw (take-all (length q - read) (drop read q) (omega (arith, length-drop read q))) at lent
 
-    pub room : written ≤ length out′
-    room = rw same-room (a .puts .fits)
+    lent-size : length (take most buffer) ≡ most
+    lent-size = length-take-le most buffer (omega (arith, long, a .few))
 
-    pub room-left : 64 ≤ length out′ - written → written + 64 ≤ length out′
-    room-left h = omega (arith, room, h)
+    pub batch-few : b .answered ≤ most
+    batch-few = omega (arith, batch .fits, lent-size)
 
-    -- why the loop ends
-    stopping : Stopped k′ (drop read q) (length out - written) → Advances hs ms k q out out′ (record { number = k′; read = read; written = written })
-    stopping h =
-        record {
-          lines = a .lines;
-          block = rw (append-nil (a .lines)) at (a .completes [] k′ (drop read q) (stopped h));
-          puts = a .puts;
-          within = a .within;
-        }
+    batch-long : b .answered ≤ length answers
+    batch-long = omega (arith, batch .fits, batch .same)
 
-    pub stopped-full : length out′ - written < 64 → Advances hs ms k q out out′ (record { number = k′; read = read; written = written })
-    stopped-full h = stopping (no-room (rw (← same-room) h))
+    pub batch-fits : b .answered ≤ length (answers ++ drop most buffer)
+    batch-fits = omega (arith, batch-long, length-append answers (drop most buffer))
 
-    pub stopped-number : 18446744073709551615 ≤ k′ → Advances hs ms k q out out′ (record { number = k′; read = read; written = written })
-    stopped-number h = stopping (no-number h)
+    pub batch-within : read + b .read ≤ length q
+    batch-within = omega (arith, a .within, batched-within hs ms (drop read q) (b .read) (take (b .answered) answers) (batch .written), length-drop read q)
 
-    pub stopped-broken : Broken (drop read q) → Advances hs ms k q out out′ (record { number = k′; read = read; written = written })
-    stopped-broken h = stopping (no-question h)
+    bytes-long : length (take (b .answered) answers) ≡ b .answered
+    bytes-long = length-take-le (b .answered) answers batch-long
 
-    -- one more run
-    module _ (out″ : List ℕ) (r : Run) (lent : Runs hs ms k′ (take (length q - read) (drop read q)) out′ written out″ r) where
-      run : Runs hs ms k′ (drop read q) out′ written out″ r
-      run =
-          let all : length (drop read q) ≤ length q - read = omega (arith, length-drop read q) in
-          rw (take-all (length q - read) (drop read q) all) at lent
+    -- something is read, or this is the last
+    pub batch-less : {room k″ most′ : ℕ} → 0 < most → LinesIn (eqb (b .answered) most) room k″ most′
+        → 1025 * (length q - (read + b .read)) + most′ < 1025 * (length q - read) + most
+    batch-less {most′ = most′} some l = by-test (eqb (b .answered) most) refl
+      where
+        by-test : (t : Bool) → eqb (b .answered) most ≡ t → 1025 * (length q - (read + b .read)) + most′ < 1025 * (length q - read) + most
+        by-test false e = omega (arith, l .ends e, some)
+        by-test true e =
+            let all : b .answered ≡ most = eqb-true (b .answered) most e in
+            let goes : 0 < b .read =
+            batched-some hs ms (drop read q) (b .read) (take (b .answered) answers) (batch .written) (omega (arith, bytes-long, all, some)) in
+            omega (arith, goes, l .few, batch-within)
 
-      pub run-within : read + r .read ≤ length q
-      run-within = omega (arith, a .within, run .within, length-drop read q)
+    module _ {out″ : List ℕ} {written″ : ℕ} (w : WritesLines out′ written k′ (take (b .answered) (answers ++ drop most buffer)) out″ written″) where
+      batch-puts : Puts out′ written (answer-lines k′ (take (b .answered) answers)) out″ written″
+      batch-puts =
+          let same : take (b .answered) (answers ++ drop most buffer) ≡ take (b .answered) answers = take-append-le (b .answered) answers (drop most buffer) batch-long in
+          (rw same at w) .puts (omega (arith, bytes-long, batch-few, a .room, a .same, a .puts .fits), omega (arith, bytes-long, batch-few, a .numbers))
 
-      pub advanced-run : Advanced hs ms k q out (k′ + r .answered) (read + r .read) (r .written) out″
-      advanced-run =
+      pub batch-same : length out″ ≡ length out
+      batch-same = puts-length _ _ _ _ _ batch-puts ∙ a .same
+
+      pub batch-written : written″ ≤ length out″
+      batch-written = omega (arith, batch-puts .fits, puts-length _ _ _ _ _ batch-puts)
+
+      pub advanced-next : {most′ : ℕ} → LinesIn (eqb (b .answered) most) (length out″ - written″) (k′ + b .answered) most′
+          → Advanced hs ms k q out (k′ + b .answered) (read + b .read) written″ most′ out″
+      advanced-next l =
+          let bytes : List ℕ = take (b .answered) answers in
+          let ends : written″ ≡ written + length (answer-lines k′ bytes) = batch-puts .ends in
+          let left : length out - written - length (answer-lines k′ bytes) ≡ length out - written″ = omega (arith, ends) in
           record {
-            lines = a .lines ++ run .lines;
-            puts = puts-then (a .puts) (run .puts);
-            within = run-within;
-            completes = λ lines k″ rest b.
-                rw (append-assoc (a .lines) (run .lines) lines)
-                (a .completes (run .lines ++ lines) k″ rest
-                (rw same-room at (run .completes lines k″ rest (rw (drop-drop (r .read) read q, same-room) b))));
+            lines = a .lines ++ answer-lines k′ bytes;
+            puts = puts-then (a .puts) batch-puts;
+            same = batch-same;
+            within = batch-within;
+            completes = λ lines k″ rest t.
+                rw (append-assoc (a .lines) (answer-lines k′ bytes) lines)
+                (a .completes (answer-lines k′ bytes ++ lines) k″ rest
+                (batched-completes hs ms (drop read q) (b .read) bytes (batch .written) k′ (length out - written) lines k″ rest
+                (omega (arith, bytes-long, batch-few, a .room)) (omega (arith, bytes-long, batch-few, a .numbers))
+                (rw (bytes-long, left, drop-drop (b .read) read q) t)));
+            few = l .few;
+            room = rw (← batch-same) (l .fits);
+            numbers = l .numbers;
+            stops = λ e. rw (← batch-same) (stops-by (l .none e) (λ f. rw (drop-drop (b .read) read q) at (by-reason (eqb-false (b .answered) most f) (batch .stopped))));
           }
-
-      pub run-broken : r .follows ≡ false → Broken (drop (read + r .read) q)
-      run-broken h = rw (drop-drop (r .read) read q) at (run .ends h)
+        where
+          by-reason : (b .answered ≡ most → ⊥) → (b .answered ≡ length (take most buffer)) ⊎ Broken (drop (b .read) (drop read q))
+              → Broken (drop (b .read) (drop read q))
+          by-reason other (inl e) = absurd (other (e ∙ lent-size))
+          by-reason other (inr h) = h
 
 -- the same tables under other names
 pub advances-as : {hs ms hs′ ms′ q out out′ : List ℕ} {k : ℕ} {p : Reached} → hs ≡ hs′ → ms ≡ ms′ → Advances hs ms k q out out′ p
@@ -190,19 +219,18 @@ pub advances-as : {hs ms hs′ ms′ q out out′ : List ℕ} {k : ℕ} {p : Rea
 advances-as e f a = rw (← e, ← f) a
 
 -- what is left of a block is moved to the front of the input
-pub answers-kept : {hs ms q out out′ q′ : List ℕ} {k end size kept : ℕ} {p : Reached} {left : Bool} → (size ≤ length q) × (take size q ≡ take end q)
-    → Advances hs ms k (take size q) out out′ p → Puts q 0 (between (p .read) size q) q′ kept → left ≡ is-whole (take kept q′)
-    → AnswersBlock hs ms k q end out q′ out′ (record { number = p .number; kept = kept; written = p .written; left = left })
-answers-kept {q = q} {q′ = q′} {size = size} {kept = kept} {p = p} front a keeps e =
-    let long : length (take size q) ≡ size = length-take-le size q (front .0) in
-    let inside : p .read ≤ size = rw (← long) (a .within) in
-    let rest : List ℕ = drop (p .read) (take size q) in
-    let moved : Puts q 0 rest q′ kept = puts-as keeps (rw (le-leb (p .read) size inside, le-leb size (length q) (front .0)) refl) in
-    record {
-      lines = a .lines;
-      rest = rest;
-      block = rw (← front .1) (a .block);
-      puts = a .puts;
-      keeps = moved;
-      left = e ∙ ap is-whole (puts-front q rest q′ 0 kept moved);
-    }
+module _ (q : List ℕ) {hs ms out out′ : List ℕ} {k end size : ℕ} {p : Reached} (front : Least end (length q) size) (a : Advances hs ms k (take size q) out out′ p) where
+  pub read-within : p .read ≤ size
+  read-within = omega (arith, a .within, length-take-le size q (front .right))
+
+  pub answers-kept : {q′ : List ℕ} {kept : ℕ} {left : Bool} → Puts q 0 (slice (p .read) size q) q′ kept → left ≡ is-whole (take kept q′)
+      → AnswersBlock hs ms k q end out q′ out′ (record { number = p .number; kept = kept; written = p .written; left = left })
+  answers-kept {q′} {kept} keeps e =
+      record {
+        lines = a .lines;
+        rest = slice (p .read) size q;
+        block = rw (← take-least front q refl) (a .block);
+        puts = a .puts;
+        keeps = keeps;
+        left = e ∙ ap is-whole (puts-front q (slice (p .read) size q) q′ 0 kept keeps);
+      }

@@ -1,68 +1,48 @@
--- `answer_each` meets its contract: each run completes the lines by its questions, and each way out says why it stops.
-use borrow.Author.Needs.{needs}
-use borrow.Author.Tests.{not-true, not-false}
+-- `answer_each` meets its contract: each batch completes the lines by its questions, until there is no more to answer or no room.
+use mathlib.Core.Path.{_≡_, sym}
+use Prim.Native.Nat.{ℕ, _+_, _-_, _*_}
 use native.Mathlib.Omega.{arith}
-use Prim.Native.Nat.{_-_}
-use lib.ListN.{length}
-use Rattle.transcript_writer.specs.PutsLaws.{puts-length}
+use borrow.Author.Needs.{needs}
+use lib.ListN.{length, take, replicate, length-replicate}
+use lib.Seq.{length-take-le}
 use Rattle.transcript_writer.specs.Advances.{Advanced}
-use Rattle.transcript_writer.specs.AdvancesLaws.{room, room-left, advanced-none, run-within, advanced-run, run-broken, stopped-broken, stopped-full, stopped-number}
+use Rattle.transcript_writer.specs.AdvancesLaws.{least-counts, triples-count, take-least, take-triples, advanced-none, advances, advances-as, batch-few, batch-fits, batch-within, batch-less, batch-written, advanced-next}
 use Rattle.transcript_writer.proofs.block.answer_each.Statement.{statement}
 use Rattle.transcript_writer.proofs.block.answer_each.Tie as tie
 
 abbrev Inv-loop : tie.InvT-loop
-Inv-loop heads moves number input out₀ next₀ read₀ written₀ out next read written = Advanced heads moves number input out₀ next read written out
+Inv-loop number input out₀ heads moves names numbers next₀ read₀ written₀ most₀ out next read written most =
+    Advanced (take names heads) (take numbers moves) number input out₀ next read written most out
 
 abbrev μ-loop : tie.MeasureT-loop
-μ-loop heads moves number input out₀ next₀ read₀ written₀ out next read written = length input - read
+μ-loop number input out₀ heads moves names numbers next₀ read₀ written₀ most₀ out next read written most =
+    1025 * (length input - read) + most
 
-loop-holds : tie.Need-loop-holds Inv-loop μ-loop
-loop-holds c = advanced-none _ _ _ _ _
-
-sub-if1 : tie.Need-sub-if1 Inv-loop μ-loop
-sub-if1 c = room _ _ _ _ _ _ _ _ _ (c .before .loop .inv)
-
-sub-answer-run : tie.Need-sub-answer-run Inv-loop μ-loop
-sub-answer-run c = omega (arith, c .before .before .loop .inv .within)
-
-part-answer-run-start : tie.Need-part-answer-run-start Inv-loop μ-loop
-part-answer-run-start c = omega (arith, c .before .before .loop .inv .within)
-
-part-answer-run-end : tie.Need-part-answer-run-end Inv-loop μ-loop
-part-answer-run-end c = omega (arith, c .before .before .loop .inv .within)
-
-answer-run-requires : tie.Need-answer-run-requires Inv-loop μ-loop
-answer-run-requires c κs = (search needs, room-left _ _ _ _ _ _ _ _ _ (c .before .before .before .before .loop .inv) (search needs))
+zeros : length {A = ℕ} (replicate 1024 0) ≡ 1024
+zeros = length-replicate {A = ℕ} 1024 0
 
 add-next : tie.Need-add-next Inv-loop μ-loop
-add-next c = omega (arith, c .before .before .answer-run .ensures .counted)
+add-next c = let inv = c .before .before .before .before .before .before .before .before .before .before .before .before .loop .inv in omega (arith, batch-few inv (replicate 1024 0) zeros (c .before .before .before .before .before .before .ask-all .ensures), inv .numbers)
 
 add-read : tie.Need-add-read Inv-loop μ-loop
-add-read c = omega (arith, run-within _ _ _ _ _ _ _ _ _ (c .before .before .before .before .before .before .before .before .loop .inv) _ _ (c .before .before .before .answer-run .ensures), c .before .before .before .before .before .before .before .before .before .before .before .before .before .good)
+add-read c = omega (arith, batch-within (c .before .before .before .before .before .before .before .before .before .before .before .before .before .loop .inv) (replicate 1024 0) zeros (c .before .before .before .before .before .before .before .ask-all .ensures), c .before .before .before .before .before .before .before .before .before .before .before .before .before .before .before .before .before .before .before .before .before .good)
+
+sub-lines-in : tie.Need-sub-lines-in Inv-loop μ-loop
+sub-lines-in c = batch-written (c .before .before .before .before .before .before .before .before .before .before .before .before .before .loop .inv) (replicate 1024 0) zeros (c .before .before .before .before .before .before .before .ask-all .ensures) (c .before .before .before .answer-lines .ensures)
 
 loop-less : tie.Need-loop-less Inv-loop μ-loop
-loop-less c = omega (arith, run-within _ _ _ _ _ _ _ _ _ (c .before .before .before .before .before .before .before .before .before .before .loop .inv) _ _ (c .before .before .before .before .before .answer-run .ensures), c .before .before .before .before .before .answer-run .ensures .goes (not-false _ (c .if2 .left)))
+loop-less c = batch-less (c .before .before .before .before .before .before .before .before .before .before .before .before .before .before .loop .inv) (replicate 1024 0) zeros (c .before .before .before .before .before .before .before .before .ask-all .ensures) (search needs) (c .lines-in2 .ensures)
 
 loop-again : tie.Need-loop-again Inv-loop μ-loop
-loop-again c = advanced-run _ _ _ _ _ _ _ _ _ (c .before .before .before .before .before .before .before .before .before .before .loop .inv) _ _ (c .before .before .before .before .before .answer-run .ensures)
-
-same-length : tie.Need-same-length Inv-loop μ-loop
-same-length c = puts-length _ _ _ _ _ (c .before .before .loop .inv .puts)
+loop-again c =
+    advanced-next (c .before .before .before .before .before .before .before .before .before .before .before .before .before .before .loop .inv) (replicate 1024 0) zeros (c .before .before .before .before .before .before .before .before .ask-all .ensures) (c .before .before .before .before .answer-lines .ensures) (c .lines-in2 .ensures)
 
 returns : tie.Need-returns Inv-loop μ-loop
-returns c = stopped-full _ _ _ _ _ _ _ _ _ (c .before .before .loop .inv) (search needs)
-
-same-length-2 : tie.Need-same-length-2 Inv-loop μ-loop
-same-length-2 c = puts-length _ _ _ _ _ (c .before .loop .inv .puts)
-
-returns-2 : tie.Need-returns-2 Inv-loop μ-loop
-returns-2 c = stopped-number _ _ _ _ _ _ _ _ _ (c .before .loop .inv) (search needs)
-
-same-length-3 : tie.Need-same-length-3 Inv-loop μ-loop
-same-length-3 c = puts-length _ _ _ _ _ (advanced-run _ _ _ _ _ _ _ _ _ (c .before .before .before .before .before .before .before .before .before .before .loop .inv) _ _ (c .before .before .before .before .before .answer-run .ensures) .puts)
-
-returns-3 : tie.Need-returns-3 Inv-loop μ-loop
-returns-3 c = stopped-broken _ _ _ _ _ _ _ _ _ (advanced-run _ _ _ _ _ _ _ _ _ (c .before .before .before .before .before .before .before .before .before .before .loop .inv) _ _ (c .before .before .before .before .before .answer-run .ensures)) (run-broken _ _ _ _ _ _ _ _ _ (c .before .before .before .before .before .before .before .before .before .before .loop .inv) _ _ (c .before .before .before .before .before .answer-run .ensures) (not-true _ (c .if2 .taken)))
+returns c =
+    let tables = c .before .before .before .before .before .before .before .before .before .args .tables in
+    let heads = take-least (c .before .before .before .before .least .ensures) (tables .heads) (search needs) in
+    let moves = take-triples (c .before .before .before .least2 .ensures) (tables .moves) (search needs) in
+    advances-as heads moves (advances (c .before .loop .inv) (search needs))
 
 pub answer-each-spec : {M : Type 1} → statement M
 answer-each-spec =
@@ -70,19 +50,29 @@ answer-each-spec =
     (tie.spec
     Inv-loop
     μ-loop
-    loop-holds
-    sub-if1
-    sub-answer-run
-    part-answer-run-start
-    part-answer-run-end
-    answer-run-requires
+    (λ c κs. search needs)
+    (λ c κs. search needs)
+    (λ c. search needs)
+    (λ c κs. search needs)
+    (λ c. advanced-none (c .lines-in .ensures))
+    (λ c. least-counts (c .before .before .before .before .least .ensures) (c .before .before .before .before .before .before .before .before .before .args .tables .heads) (search needs) .0)
+    (λ c. least-counts (c .before .before .before .before .before .least .ensures) (c .before .before .before .before .before .before .before .before .before .before .args .tables .heads) (search needs) .1)
+    (λ c. triples-count (c .before .before .before .before .least2 .ensures) (c .before .before .before .before .before .before .before .before .before .before .args .tables .moves) (search needs) .0)
+    (λ c. triples-count (c .before .before .before .before .before .least2 .ensures) (c .before .before .before .before .before .before .before .before .before .before .before .args .tables .moves) (search needs) .1)
+    (λ c. search needs)
+    (λ c. search needs)
+    (λ c. search needs)
+    (λ c. search needs)
+    (λ c. sym (length-take-le _ (replicate 1024 0) (c .before .before .before .before .before .loop .inv .few)))
+    (λ c κs. search needs)
+    (λ c. batch-fits (c .before .before .before .before .before .before .before .before .loop .inv) (replicate 1024 0) zeros (c .before .before .ask-all .ensures))
+    (λ c. sym (length-take-le _ _ (batch-fits (c .before .before .before .before .before .before .before .before .before .loop .inv) (replicate 1024 0) zeros (c .before .before .before .ask-all .ensures))))
+    (λ c κs. search needs)
     add-next
     add-read
+    sub-lines-in
+    (λ c κs. search needs)
     loop-less
     loop-again
-    same-length
-    returns
-    same-length-2
-    returns-2
-    same-length-3
-    returns-3)
+    (λ c. c .before .loop .inv .same)
+    returns)
