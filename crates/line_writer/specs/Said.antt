@@ -29,6 +29,7 @@ answer-lines k (byte ∷ bytes) = answer-line k (told byte) ++ answer-lines (suc
 abbrev pub Room : (size at k count : ℕ) → Type 0
 Room size at k count = (at + 64 * count ≤ size) × (k + count ≤ 18446744073709551615)
 
+-- whether there is room
 pub record HasRoom (size at k count : ℕ) (r : Bool) : Type 0 where
   pub some : r ≡ true → Room size at k count
   pub none : r ≡ false → Room size at k count → ⊥

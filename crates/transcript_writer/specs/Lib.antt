@@ -1,8 +1,3 @@
-pub mod Puts
-pub mod Said
-pub mod PutsLaws
-pub mod Found
-pub mod FoundLaws
 pub mod Opened
 pub mod OpenedLaws
 pub mod Advances

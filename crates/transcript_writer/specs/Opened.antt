@@ -8,10 +8,12 @@ use Rattle.roles.specs.Rule.{Book}
 use Rattle.base.specs.Result.{Result, map-result}
 use Rattle.base.specs.Result.Result.{refused, ok}
 use Rattle.book_causes.specs.Accepted.{states-of, count-of, heads-of, moves-of, built, written}
+use Rattle.table_builder.specs.declared.Counts.{Counts}
 use Rattle.transcript_lines.specs.Lines.{first-line}
 use Rattle.transcript_writer.specs.declared.opening.Tables.{Tables}
 use Rattle.transcript_writer.specs.declared.opening.Opening.{Opening}
-use Rattle.transcript_writer.specs.Puts.{Puts}
+use Rattle.transcript_writer.specs.declared.opening.Report.{Report}
+use Rattle.line_writer.specs.Puts.{Puts}
 
 -- the numbers of tables that count
 abbrev pub heads-in : Tables → List ℕ
@@ -28,6 +30,11 @@ count-or-none count (ok b) = count b
 abbrev pub is-ok : {A : Type 0} → Result A → Bool
 is-ok (refused cause value) = false
 is-ok (ok a) = true
+
+-- a build in numbers: those of the first line, and of the tables, which are empty where the book is refused
+abbrev pub reported : Result Counts → Report
+reported (ok c) = record { accepted = true; first = c .states; second = c .transitions; names = c .names; transitions = c .transitions }
+reported (refused cause value) = record { accepted = false; first = cause; second = value; names = 0; transitions = 0 }
 
 -- the first line of a build in tables of the largest size that held h and m, and the tables that it leaves, with its counts
 pub record Opens (s h m line line′ : List ℕ) (r : Opening) : Type 0 where

@@ -1,5 +1,4 @@
 -- From a build to what opening promises, and the tables that an accepted book is opened with.
-use mathlib.Core.Bool.{true, false}
 use mathlib.Core.List.{List}
 use mathlib.Core.Path.{_≡_, refl, sym, ap, _∙_}
 use Prim.Native.Nat.{ℕ, _*_}
@@ -8,67 +7,64 @@ use Rattle.roles.specs.Rule.{Book}
 use Rattle.tables.specs.Tables.{transitions}
 use Rattle.base.specs.Result.{Result, map-result}
 use Rattle.base.specs.Result.Result.{refused, ok}
-use Rattle.book_causes.specs.Accepted.{states-of, count-of, heads-of, moves-of, built, over, written}
+use Rattle.book_causes.specs.Accepted.{states-of, count-of, heads-of, moves-of, built, over}
 use Rattle.table_laying.specs.Pieces.{length-numbers, length-roots}
-use Rattle.refusals.specs.declared.refusal.Refusal.{Refusal}
-use Rattle.refusals.specs.Refusal.{cause-of, value-of}
-use Rattle.table_builder.specs.declared.Counts.{Counts}
 use Rattle.table_builder.specs.declared.Outcome.{Outcome}
-use Rattle.table_builder.specs.declared.Outcome.the-variants.{Built, Refused}
-use Rattle.table_builder.specs.Builds.{Builds}
-use Rattle.table_builder.specs.WrittenLaws.{over-front, own, refused-by}
+use Rattle.table_builder.specs.Builds.{counts-of, says, Builds}
+use Rattle.table_builder.specs.WrittenLaws.{over-front}
 use Rattle.transcript_lines.specs.Lines.{first-line}
+use Rattle.line_writer.specs.Puts.{Puts}
+use Rattle.line_writer.specs.PutsLaws.{puts-as}
+use Rattle.line_writer.specs.Said.{book-says}
 use Rattle.transcript_writer.specs.declared.opening.Opening.{Opening}
-use Rattle.transcript_writer.specs.Puts.{Puts}
-use Rattle.transcript_writer.specs.PutsLaws.{puts-as}
-use Rattle.transcript_writer.specs.Said.{outcome-says}
-use Rattle.transcript_writer.specs.Opened.{heads-in, moves-in, count-or-none, is-ok, Opens}
+use Rattle.transcript_writer.specs.declared.opening.Report.{Report}
+use Rattle.transcript_writer.specs.Opened.{heads-in, moves-in, count-or-none, is-ok, reported, Opens}
 
--- the counts of a book, as the first line has them
+-- the numbers of a book, as its first line and its tables have them
 abbrev line-of : Result Book → List ℕ
 line-of t = first-line (map-result (λ (b : Book). (states-of b, count-of b)) t)
 
-module _ (s h m h′ m′ line line′ : List ℕ) (size : ℕ) (heads : length h ≡ 64) (moves : length m ≡ 15360) (o : Outcome) (p : Builds s h m h′ m′ o)
-    (puts : Puts line 0 (first-line (outcome-says o)) line′ size) where
-  lent : built s 64 15360 ≡ built s (length h) (length m)
-  lent = rw (heads, moves) refl
+abbrev report-line : Report → List ℕ
+report-line r = first-line (book-says (r .accepted) (r .first) (r .second))
 
-  wrote-heads : h′ ≡ written (built s 64 15360) heads-of h
-  wrote-heads = rw (heads, moves) at (p .heads)
+abbrev report-of : Result Book → Report
+report-of t = reported (map-result counts-of t)
 
-  wrote-moves : m′ ≡ written (built s 64 15360) moves-of m
-  wrote-moves = rw (heads, moves) at (p .moves)
+line-reported : (t : Result Book) → report-line (report-of t) ≡ line-of t
+line-reported (refused cause value) = refl
+line-reported (ok b) = refl
 
-  pub opened-built : (c : Counts) → o ≡ Built c → Opens s h m line line′
-      (record { tables = record { heads = h′; moves = m′; names = c .names; transitions = c .transitions }; written = size; accepted = true })
-  opened-built c q =
-      let book = own s h m h′ m′ c (rw q at p) in
-      let e : built s 64 15360 ≡ ok (book .book) = lent ∙ book .accepts in
-      let text : first-line (outcome-says o) ≡ line-of (built s 64 15360) =
-      ap (λ (x : Outcome). first-line (outcome-says x)) q
-      ∙ ap (λ (k : Counts). first-line (ok (k .states, k .transitions))) (book .same)
-      ∙ sym (ap line-of e) in
-      record {
-        puts = puts-as puts text;
-        accepted = sym (ap is-ok e);
-        heads = wrote-heads;
-        moves = wrote-moves;
-        names = ap (λ (k : Counts). k .names) (book .same) ∙ sym (ap (count-or-none (λ (b : Book). b .names)) e);
-        transitions = ap (λ (k : Counts). k .transitions) (book .same) ∙ sym (ap (count-or-none count-of) e);
-      }
+accepted-reported : (t : Result Book) → report-of t .accepted ≡ is-ok t
+accepted-reported (refused cause value) = refl
+accepted-reported (ok b) = refl
 
-  pub opened-refused : (x : Refusal) → o ≡ Refused x
-      → Opens s h m line line′ (record { tables = record { heads = h′; moves = m′; names = 0; transitions = 0 }; written = size; accepted = false })
-  opened-refused x q =
-      let e : built s 64 15360 ≡ refused (cause-of x) (value-of x) = lent ∙ refused-by s h m h′ m′ x (rw q at p) in
-      record {
-        puts = puts-as puts (ap (λ (y : Outcome). first-line (outcome-says y)) q ∙ sym (ap line-of e));
-        accepted = sym (ap is-ok e);
-        heads = wrote-heads;
-        moves = wrote-moves;
-        names = sym (ap (count-or-none (λ (b : Book). b .names)) e);
-        transitions = sym (ap (count-or-none count-of) e);
-      }
+names-reported : (t : Result Book) → report-of t .names ≡ count-or-none (λ (b : Book). b .names) t
+names-reported (refused cause value) = refl
+names-reported (ok b) = refl
+
+transitions-reported : (t : Result Book) → report-of t .transitions ≡ count-or-none count-of t
+transitions-reported (refused cause value) = refl
+transitions-reported (ok b) = refl
+
+pub opened : (s h m h′ m′ line line′ : List ℕ) (size : ℕ) {o : Outcome} {r : Report} → length h ≡ 64 → length m ≡ 15360 → Builds s h m h′ m′ o
+    → r ≡ reported (says o) → Puts line 0 (report-line r) line′ size
+    → Opens s h m line line′
+    (record { tables = record { heads = h′; moves = m′; names = r .names; transitions = r .transitions }; written = size; accepted = r .accepted })
+opened s h m h′ m′ line line′ size {r = r} heads moves p e puts =
+    let t : Result Book = built s 64 15360 in
+    let f : r ≡ report-of t = e ∙ ap reported (rw (heads, moves) at (p .answer)) in
+    record {
+      puts = puts-as puts (ap report-line f ∙ line-reported t);
+      accepted = ap (λ (x : Report). x .accepted) f ∙ accepted-reported t;
+      heads = rw (heads, moves) at (p .heads);
+      moves = rw (heads, moves) at (p .moves);
+      names = ap (λ (x : Report). x .names) f ∙ names-reported t;
+      transitions = ap (λ (x : Report). x .transitions) f ∙ transitions-reported t;
+    }
+
+-- what a report says of each outcome
+pub reported-as : (o v : Outcome) {r : Report} → o ≡ v → r ≡ reported (says v) → r ≡ reported (says o)
+reported-as o v e f = f ∙ ap (λ (x : Outcome). reported (says x)) (sym e)
 
 -- the numbers that count are the tables of the book
 module _ {s h m line line′ : List ℕ} {r : Opening} (o : Opens s h m line line′ r) (b : Book) (e : built s 64 15360 ≡ ok b) where

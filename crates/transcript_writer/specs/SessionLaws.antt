@@ -19,7 +19,7 @@ use Rattle.transcript_lines.specs.Transcript.Session.{refuses}
 use Rattle.transcript_lines.specs.Block.{Blocks, joined, ending}
 use Rattle.transcript_lines.specs.BlockLaws.{blocks-map, session-blocks}
 use Rattle.transcript_writer.specs.declared.opening.Opening.{Opening}
-use Rattle.transcript_writer.specs.PutsLaws.{puts-front}
+use Rattle.line_writer.specs.PutsLaws.{puts-front}
 use Rattle.transcript_writer.specs.Opened.{heads-in, moves-in, is-ok, Opens}
 use Rattle.transcript_writer.specs.OpenedLaws.{opened-heads, opened-moves}
 

@@ -1,7 +1,9 @@
 // Opens a book: its tables and its first line.
+ghost use mathlib.Core.Path.{_≡_};
 ghost use lib.ListN.{replicate};
-ghost use Rattle.transcript_writer.specs.Opened.{Opens};
-use crate::line::first_line;
+ghost use Rattle.table_builder.specs.Builds.{says};
+ghost use Rattle.transcript_writer.specs.Opened.{reported, Opens};
+use line_writer::first_line;
 use table_builder::Outcome;
 
 // The tables of a book as one build has written them, with how many of their numbers count.
@@ -25,28 +27,46 @@ pub fn open(book: &[u8], line: &mut [u8; 64]) -> Opening
 {
     let mut heads = [0u16; 64];
     let mut moves = [0u16; 15360];
-    let outcome = table_builder::build(book, &mut heads, &mut moves);
-    let written = first_line(outcome, line);
-    match outcome {
-        Outcome::Built(counts) => Opening {
-            tables: Tables {
-                heads: heads,
-                moves: moves,
-                names: counts.names,
-                transitions: counts.transitions,
-            },
-            written: written,
-            accepted: true,
+    let report = in_numbers(table_builder::build(book, &mut heads, &mut moves));
+    Opening {
+        tables: Tables {
+            heads: heads,
+            moves: moves,
+            names: report.names,
+            transitions: report.transitions,
         },
-        Outcome::Refused(_) => Opening {
-            tables: Tables {
-                heads: heads,
-                moves: moves,
-                names: 0,
-                transitions: 0,
-            },
-            written: written,
+        written: first_line(report.accepted, report.first, report.second, line),
+        accepted: report.accepted,
+    }
+}
+
+// A build in numbers: whether the book is accepted, the two numbers of its first line, and how many heads and transitions count.
+struct Report {
+    accepted: bool,
+    first: u64,
+    second: u64,
+    names: usize,
+    transitions: usize,
+}
+
+// What the build of a book says, in numbers.
+fn in_numbers(outcome: Outcome) -> Report
+    ensures { λ r. ⌜ r ≡ reported (says outcome) ⌝ }
+{
+    match outcome {
+        Outcome::Built(counts) => Report {
+            accepted: true,
+            first: counts.states as u64,
+            second: counts.transitions as u64,
+            names: counts.names,
+            transitions: counts.transitions,
+        },
+        Outcome::Refused(refusal) => Report {
             accepted: false,
+            first: refusals::cause(refusal) as u64,
+            second: refusals::value(refusal) as u64,
+            names: 0,
+            transitions: 0,
         },
     }
 }

@@ -2,15 +2,15 @@
 use borrow.Author.Needs.{needs}
 use Prim.Native.Nat.{ℕ}
 use lib.ListN.{length-replicate}
-use Rattle.transcript_writer.specs.OpenedLaws.{opened-built, opened-refused}
+use Rattle.transcript_writer.specs.OpenedLaws.{opened}
 use Rattle.transcript_writer.proofs.opening.open.Statement.{statement}
 use Rattle.transcript_writer.proofs.opening.open.Tie as tie
 
 returns : tie.Need-returns
-returns c = opened-built _ _ _ _ _ _ _ _ (length-replicate {A = ℕ} 64 0) (length-replicate {A = ℕ} 15360 0) _ (c .before .before .before .before .before .before .before .build .ensures) (c .before .before .before .first-line .ensures) _ (c .before .outcome .given .1)
-
-returns-2 : tie.Need-returns-2
-returns-2 c = opened-refused _ _ _ _ _ _ _ _ (length-replicate {A = ℕ} 64 0) (length-replicate {A = ℕ} 15360 0) _ (c .before .before .before .before .before .before .build .ensures) (c .before .before .first-line .ensures) _ (c .enum-told .given .1)
+returns c =
+    let long-heads = length-replicate {A = ℕ} 64 0 in
+    let long-moves = length-replicate {A = ℕ} 15360 0 in
+    opened _ _ _ _ _ _ _ _ long-heads long-moves (c .before .before .before .before .before .build .ensures) (c .before .before .in-numbers .ensures) (c .first-line .ensures)
 
 pub open-spec : {M : Type 1} → statement M
 open-spec =
@@ -20,7 +20,5 @@ open-spec =
     (λ c. search needs)
     (λ c κs. search needs)
     (λ c κs. search needs)
-    (λ c. search needs)
-    (λ c. search needs)
-    returns
-    returns-2)
+    (λ c κs. search needs)
+    returns)
