@@ -23,7 +23,7 @@ use Rattle.transcript_lines.specs.Block.{Block, Blocks, joined}
 use Rattle.transcript_lines.specs.Block.Blocks.{none, more}
 use Rattle.transcript_lines.specs.BlockLaws.{block-counts, block-goes}
 use Rattle.transcript_writer.specs.declared.block.Progress.{Progress}
-use Rattle.transcript_writer.specs.PutsLaws.{puts-front}
+use Rattle.line_writer.specs.PutsLaws.{puts-front}
 use Rattle.transcript_writer.specs.Advances.{AnswersBlock}
 use Rattle.transcript_writer.specs.declared.opening.Opening.{Opening}
 use Rattle.transcript_writer.specs.Opened.{heads-in, moves-in, is-ok, Opens}

@@ -1,7 +1,7 @@
 -- `run` meets its contract: what the opening and the blocks promise.
 use borrow.Author.Needs.{needs}
 use borrow.Author.Tests.{not-true, not-false}
-use Rattle.transcript_writer.specs.PutsLaws.{puts-counts}
+use Rattle.line_writer.specs.PutsLaws.{puts-counts}
 use Rattle.program.specs.Ran.Ran.{unwritten}
 use Rattle.program.specs.RanLaws.{ran-refused, ran-served}
 use Rattle.program.proofs.run.Statement.{statement}

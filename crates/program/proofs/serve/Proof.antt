@@ -6,7 +6,7 @@ use native.Mathlib.Omega.{arith}
 use borrow.Author.Needs.{needs}
 use lib.ListN.{length, take, length-replicate}
 use Rattle.query_causes.specs.Query.{Answered}
-use Rattle.transcript_writer.specs.PutsLaws.{puts-length, puts-counts}
+use Rattle.line_writer.specs.PutsLaws.{puts-length, puts-counts}
 use Rattle.transcript_writer.specs.Opened.{heads-in, moves-in}
 use Rattle.program.specs.Ran.{Serving}
 use Rattle.program.specs.Ran.Served.{unwritten}

@@ -1,7 +1,7 @@
 -- `try_blocks` meets its contract: the buffer of a line keeps its length.
 use borrow.Author.Needs.{needs}
 use mathlib.Core.Path.{sym, _∙_}
-use Rattle.transcript_writer.specs.PutsLaws.{puts-length}
+use Rattle.line_writer.specs.PutsLaws.{puts-length}
 use Rattle.examples_program.proofs.blocks.try_blocks.Statement.{statement}
 use Rattle.examples_program.proofs.blocks.try_blocks.Tie as tie
 
