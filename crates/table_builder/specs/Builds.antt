@@ -1,16 +1,23 @@
 -- What a build says and writes.
+use mathlib.Core.Bool.{Bool, true, false}
 use mathlib.Core.List.{List}
 use mathlib.Core.Path.{_≡_}
-use Prim.Native.Nat.{ℕ, _<_, _≤_}
+use Prim.Native.Nat.{ℕ, _*_, _<_, _≤_}
 use lib.ListN.{length}
 use Rattle.roles.specs.Rule.{Book}
 use Rattle.base.specs.Result.{Result, map-result}
 use Rattle.base.specs.Result.Result.{refused, ok}
 use Rattle.book_causes.specs.Ordered
-use Rattle.rule_index.specs.RuleIndex.{Indexed, level-in}
+use Rattle.book_decoder.specs.declared.verdict.Verdict.{Verdict}
+use Rattle.rule_index.specs.RuleIndex.{Indexed}
+use Rattle.rule_index.specs.Indexes.{Indexes}
 use Rattle.book_causes.specs.Accepted.{states-of, count-of, heads-of, moves-of, built, written}
 use Rattle.refusals.specs.Refusal.{cause-of, value-of}
+use Rattle.refusals.specs.declared.refusal.Refusal.{Refusal}
+use Rattle.refusals.specs.declared.refusal.Refusal.the-variants.{States, Transitions, Short}
+use Rattle.table_builder.specs.Lay.{Enough}
 use Rattle.table_builder.specs.declared.Counts.{Counts}
+use Rattle.table_builder.specs.declared.lay.Place.{Place}
 use Rattle.table_builder.specs.declared.Outcome.{Outcome}
 use Rattle.table_builder.specs.declared.Outcome.the-variants.{Built, Refused}
 
@@ -23,6 +30,14 @@ abbrev pub says : Outcome → Result Counts
 says (Built counts) = ok counts
 says (Refused refusal) = refused (cause-of refusal) (value-of refusal)
 
+-- the answer of causes 1 to 11 where so many heads and moves are lent
+abbrev pub Answers : List ℕ → (heads moves : ℕ) → Outcome → Type 0
+Answers s heads moves r = says r ≡ map-result counts-of (built s heads moves)
+
+-- the numbers are what indexing a book left of as many others
+abbrev pub Checked : (s ix : List ℕ) → Verdict → Type 0
+Checked s ix v = (old : List ℕ) × (length old ≡ 3712) × Indexes s old ix v
+
 -- an ordered book of so many names and its index, with levels below the number of names
 pub record Prepared (s ix : List ℕ) (names : ℕ) : Type 0 where
   pub book : Book
@@ -30,7 +45,28 @@ pub record Prepared (s ix : List ℕ) (names : ℕ) : Type 0 where
   pub index : Indexed (book .rules) ix
   pub same : names ≡ book .names
   pub few : names ≤ 64
-  pub levels : (x : ℕ) → x < names → level-in ix x < names
+  pub levels : Enough ix names (book .names)
+
+-- causes 9 to 11 of tables that end at a place: all are passed; and a refusal is the first that is not
+pub record Fitting (names : ℕ) (end : Place) (h m : ℕ) : Type 0 where
+  pub states : end .state ≤ 2048
+  pub transitions : end .count ≤ 5120
+  pub heads : names ≤ h
+  pub moves : 3 * end .count ≤ m
+
+abbrev pub Decides : Type 0 → Bool → Type 0
+Decides A true = A
+Decides A false = A → ⊥
+
+pub data Exceeds (end : Place) : Refusal → Type 0 where
+  states : 2048 < end .state → Exceeds end States
+  transitions : end .state ≤ 2048 → 5120 < end .count → Exceeds end Transitions
+  short : end .state ≤ 2048 → end .count ≤ 5120 → Exceeds end Short
+
+-- the names that have been built
+abbrev pub names-in : Outcome → ℕ
+names-in (Built counts) = counts .names
+names-in (Refused refusal) = 0
 
 -- the answer is that of causes 1 to 11, and the lent tables hold what it says
 pub record Builds (s : List ℕ) (h m h′ m′ : List ℕ) (r : Outcome) : Type 0 where

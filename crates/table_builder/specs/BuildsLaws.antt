@@ -1,58 +1,60 @@
--- From the answer of the index to what the builder's steps need.
+-- From the answer of the index to what a build promises.
 use mathlib.Core.List.{List}
 use mathlib.Core.Path.{_≡_, refl, sym, ap, _∙_}
-use Prim.Native.Nat.{ℕ, _≤_}
+use Prim.Native.Nat.{ℕ, _<_, _≤_}
+use native.Mathlib.Omega.{arith}
 use lib.ListN.{length}
-use Rattle.roles.specs.Rule.{Book}
+use Rattle.roles.specs.Rule.{Rule, Book}
 use Rattle.base.specs.Result.{Result, map-result}
 use Rattle.base.specs.ResultLaws.{ok-injective, refused-ok}
 use Rattle.base.specs.Result.Result.{refused, ok}
 use Rattle.book_format.specs.ReadLaws.{read-few-names}
+use Rattle.book_causes.specs.Accepted.{built}
 use Rattle.book_causes.specs.Ordered as Ordered
 use Rattle.book_causes.specs.OrderedRun.{ordered-read}
-use Rattle.book_causes.specs.AcceptedLaws.{accepted-refused, built-refused}
+use Rattle.book_causes.specs.AcceptedLaws.{accepted-refused, accepted-passed, built-refused, built-accepted}
 use Rattle.refusals.specs.declared.refusal.Refusal.{Refusal}
 use Rattle.book_header.specs.declared.Header.{Header}
 use Rattle.book_decoder.specs.declared.verdict.Verdict.{Verdict}
 use Rattle.book_decoder.specs.declared.verdict.Verdict.the-variants.{WellFormed, Refused}
 use Rattle.refusals.specs.Refusal.{cause-of, value-of}
 use Rattle.book_decoder.specs.Verdict.{header-of, says}
-use Rattle.rule_index.specs.Indexes.{Indexes}
-use Rattle.table_builder.specs.Builds.{Prepared, Builds}
+use Rattle.rule_index.specs.RuleIndex.{Indexed}
+use Rattle.table_builder.specs.Lay.{Rooted}
+use Rattle.table_builder.specs.Builds.{counts-of, Answers, Checked, Prepared, names-in, Builds}
+use Rattle.table_builder.specs.CountedLaws.{builds-refused, builds-laid}
+use Rattle.table_builder.specs.declared.lay.Place.{Place}
+use Rattle.table_builder.specs.declared.Counts.{Counts}
+use Rattle.table_builder.specs.declared.Outcome.{Outcome}
 use Rattle.table_builder.specs.declared.Outcome.the-variants as outcome
-use Rattle.table_builder.specs.CountedLaws.{builds-refused}
 
-module _ (s old ix : List ℕ) (v : Verdict) (a : Indexes s old ix v) where
-  -- a book that passes, by its header
-  module _ (h : Header) (e : v ≡ WellFormed h) (size : length old ≡ 3712) where
-    passed : (b : Book) × (Ordered.ordered s ≡ ok b) × (h ≡ header-of b)
-    passed = by-result (Ordered.ordered s) refl (sym (ap says e) ∙ a .verdict)
-      where
-        by-result : (r : Result Book) → Ordered.ordered s ≡ r → ok h ≡ map-result header-of (Ordered.ordered s)
-            → (b : Book) × (Ordered.ordered s ≡ ok b) × (h ≡ header-of b)
-        by-result (refused c v) f g = absurd (refused-ok c v h (sym (g ∙ ap (map-result header-of) f)))
-        by-result (ok b) f g = (b, f, ok-injective h (header-of b) (g ∙ ap (map-result header-of) f))
+module _ (s ix : List ℕ) (v : Verdict) (a : Checked s ix v) where
+  -- a book that is in order
+  prepare : (b : Book) → Ordered.ordered s ≡ ok b → (names : ℕ) → names ≡ b .names → Prepared s ix names
+  prepare b o names e =
+      let few : b .names ≤ 64 = read-few-names s b (ordered-read s b o) in
+      record {
+        book = b;
+        ordered = o;
+        index = a .2 .index b o (a .1);
+        same = e;
+        few = rw e few;
+        levels = λ x k. a .2 .few b o (a .1) x (rw (← e) k);
+      }
 
-    pub prepared : Prepared s ix (h .names)
-    prepared =
-        let p = passed in
-        let b = p .0 in
-        let same : h .names ≡ b .names = ap (λ (x : Header). x .names) (p .2) in
-        let few : b .names ≤ 64 = read-few-names s b (ordered-read s b (p .1)) in
-        record {
-          book = b;
-          ordered = p .1;
-          index = a .index b (p .1) size;
-          same = same;
-          few = rw same few;
-          levels = λ x k. rw same (a .few b (p .1) size x (rw (← same) k));
-        }
+  -- by its header
+  pub prepared : (h : Header) → v ≡ WellFormed h → Prepared s ix (h .names)
+  prepared h e = by-result (Ordered.ordered s) refl (sym (ap says e) ∙ a .2 .verdict)
+    where
+      by-result : (r : Result Book) → Ordered.ordered s ≡ r → ok h ≡ map-result header-of (Ordered.ordered s) → Prepared s ix (h .names)
+      by-result (refused c v) f g = absurd (refused-ok c v h (sym (g ∙ ap (map-result header-of) f)))
+      by-result (ok b) f g = prepare b f (h .names) (ap (λ (x : Header). x .names) (ok-injective h (header-of b) (g ∙ ap (map-result header-of) f)))
 
   -- a book that is refused
-  pub build-refused : (heads moves : List ℕ) (r : Refusal) → v ≡ Refused r → Builds s heads moves heads moves (outcome.Refused r)
-  build-refused heads moves r e =
-      builds-refused s heads moves r (built-refused s (length heads) (length moves) (cause-of r) (value-of r)
-      (accepted-refused s (cause-of r) (value-of r) (by-result (Ordered.ordered s) refl (sym (ap says e) ∙ a .verdict))))
+  pub refused-answers : (heads moves : ℕ) (r : Refusal) → v ≡ Refused r → Answers s heads moves (outcome.Refused r)
+  refused-answers heads moves r e =
+      rw (built-refused s heads moves (cause-of r) (value-of r)
+      (accepted-refused s (cause-of r) (value-of r) (by-result (Ordered.ordered s) refl (sym (ap says e) ∙ a .2 .verdict)))) refl
     where
       by-result : (x : Result Book) → Ordered.ordered s ≡ x → refused (cause-of r) (value-of r) ≡ map-result header-of (Ordered.ordered s)
           → Ordered.ordered s ≡ refused (cause-of r) (value-of r)
@@ -60,3 +62,24 @@ module _ (s old ix : List ℕ) (v : Verdict) (a : Indexes s old ix v) where
           let same = g ∙ ap (map-result header-of) f in
           cc (f, same)
       by-result (ok b) f g = absurd (refused-ok (cause-of r) (value-of r) (header-of b) (g ∙ ap (map-result header-of) f))
+
+  -- a book that is built, by its counts
+  module _ (heads moves : ℕ) where
+    counted : (c : Counts) → Answers s heads moves (outcome.Built c) → Prepared s ix (c .names)
+    counted c e = by-result (built s heads moves) refl e
+      where
+        by-result : (r : Result Book) → built s heads moves ≡ r → ok c ≡ map-result counts-of r → Prepared s ix (c .names)
+        by-result (refused cause value) f g = absurd (refused-ok cause value c (sym g))
+        by-result (ok b) f g =
+            prepare b (accepted-passed s b (built-accepted s heads moves b f) .ordered) (c .names) (ap (λ (x : Counts). x .names) (ok-injective c (counts-of b) g))
+
+    pub roots-ready : (x : Outcome) → Answers s heads moves x → (n : ℕ) → n ≡ names-in x → (0 < n → (ρs : List Rule) × Indexed ρs ix) × (n ≤ 64)
+    roots-ready (outcome.Built c) e n f = let p = counted c e in (λ _. (p .book .rules, p .index), rw f (p .few))
+    roots-ready (outcome.Refused x) e n f = (λ h. absurd (let g : ⊥ = omega arith in g), omega arith)
+
+  pub builds : (h m : List ℕ) (x : Outcome) → Answers s (length h) (length m) x → (q : Place) (h′ m′ : List ℕ) (n : ℕ) → n ≡ names-in x
+      → Rooted ix n q h h′ m m′ → Builds s h m h′ m′ x
+  builds h m (outcome.Built c) e q h′ m′ n f r =
+      let p = counted (length h) (length m) c e in
+      builds-laid s ix (c .names) p h m c e q h′ m′ ((rw f at r) .roots (p .book .rules) (p .index) (p .book .names) (p .levels))
+  builds h m (outcome.Refused x) e q h′ m′ n f r = rw (r .none f .0, r .none f .1) (builds-refused s h m x e)

@@ -97,3 +97,8 @@ pub record Roots (ρs : List Rule) (fuel names : ℕ) (r : Place) (heads heads�
   pub exact : states-from ρs fuel names 0 ≤ 2048 → length (transitions-from ρs fuel names 0 0) < 60000
       → 3 * length (transitions-from ρs fuel names 0 0) ≤ length moves → moves′ ≡ sets moves 0 (numbers (transitions-from ρs fuel names 0 0))
   pub places : states-from ρs fuel names 0 ≤ 2048 → heads′ ≡ sets heads 0 (roots-from ρs fuel names 0 0)
+
+-- where there are names, for every list of rules that a list of numbers is an index of; where there are none, nothing is written
+pub record Rooted (ix : List ℕ) (names : ℕ) (r : Place) (heads heads′ moves moves′ : List ℕ) : Type 0 where
+  pub roots : (ρs : List Rule) → Indexed ρs ix → (fuel : ℕ) → Enough ix names fuel → Roots ρs fuel names r heads heads′ moves moves′
+  pub none : names ≡ 0 → (heads′ ≡ heads) × (moves′ ≡ moves)

@@ -8,7 +8,7 @@ use lib.ListN.{length, set, length-set}
 use Rattle.roles.specs.Rule.{Rule}
 use Rattle.rule_index.specs.RuleIndex.{Indexed}
 use Rattle.table_laying.specs.RootsLeft.{name-twice, RootsLaid, RootsLeft, roots-left-start, roots-left-next, roots-left-end}
-use Rattle.table_builder.specs.Lay.{Small, Fragment-of, Enough, Roots}
+use Rattle.table_builder.specs.Lay.{Small, Fragment-of, Enough, Roots, Rooted}
 use Rattle.table_builder.specs.declared.lay.Place.{Place}
 
 -- all roots, read off what is laid from state 0 on
@@ -31,6 +31,7 @@ module _ (index : List ℕ) (names : ℕ) (h m : List ℕ) where
     pub small : Small q
     pub heads : length g ≡ length h
     pub moves : length n ≡ length m
+    pub none : names ≡ 0 → (g ≡ h) × (n ≡ m)
     pub left : (ρs : List Rule) → Indexed ρs index → (fuel : ℕ) → Enough index names fuel → RootsLeft ρs fuel names h m x (q .state) (q .count) g n
 
   pub rooting-start : Rooting (record { state = 0; count = 0 }) h m 0
@@ -39,6 +40,7 @@ module _ (index : List ℕ) (names : ℕ) (h m : List ℕ) where
         small = record { state = omega arith; count = omega arith };
         heads = refl;
         moves = refl;
+        none = λ e. (refl, refl);
         left = λ ρs i fuel e. roots-left-start ρs fuel names h m;
       }
 
@@ -51,10 +53,15 @@ module _ (index : List ℕ) (names : ℕ) (h m : List ℕ) where
           small = s;
           heads = rw p (length-set g x (q .state) ∙ a .heads);
           moves = z ∙ a .moves;
+          none = λ e. absurd (let y : ⊥ = omega arith in y);
           left = λ ρs i fuel e.
               rw p (roots-left-next ρs fuel names h m x (q .state) (q .count) g n (a .left ρs i fuel e) l (v .state) (v .count) o
               (b ρs i fuel (rw (name-twice x) (e x l))));
         }
 
-    pub rooting-end : names ≤ x → (ρs : List Rule) → Indexed ρs index → (fuel : ℕ) → Enough index names fuel → Roots ρs fuel names q h g m n
-    rooting-end l ρs i fuel e = roots-all ρs fuel names q h g m n (roots-left-end ρs fuel names h m x (q .state) (q .count) g n (a .left ρs i fuel e) l)
+    pub rooting-end : names ≤ x → Rooted index names q h g m n
+    rooting-end l =
+        record {
+          roots = λ ρs i fuel e. roots-all ρs fuel names q h g m n (roots-left-end ρs fuel names h m x (q .state) (q .count) g n (a .left ρs i fuel e) l);
+          none = a .none;
+        }

@@ -9,7 +9,7 @@ ghost use Rattle.roles.specs.Rule.{Rule};
 ghost use Rattle.tables.specs.Tables.{own-shapes};
 ghost use Rattle.rule_index.specs.RuleIndex.{Indexed, kind-in, size-in, first-in};
 ghost use Rattle.rule_index.specs.RuleIndexLaws.{Here, Mirrors, has};
-ghost use Rattle.table_builder.specs.Lay.{Small, Added, Ready, Fragment-laid, Rows-laid, Row-laid, Lettered, Enough, Counted, Roots};
+ghost use Rattle.table_builder.specs.Lay.{Small, Added, Ready, Fragment-laid, Rows-laid, Row-laid, Lettered, Enough, Counted, Rooted};
 ghost use Rattle.table_builder.specs.Row.{count-by, Inner, Inner-role, Found};
 use crate::memo::again;
 use crate::memo::keep;
@@ -36,9 +36,8 @@ pub struct InnerRow {
 
 // The roots of all names, in name order, and where each stands. Transitions are counted also where there is no room for them.
 pub(crate) fn roots(index: &[u16], names: usize, heads: &mut [u16], moves: &mut [u16]) -> Place
-    requires { ⌜ ((ρs : List Rule) × Indexed ρs (now index)) × (names ≤ 64) ⌝ }
-    ensures { λ r. ⌜ ((ρs : List Rule) → Indexed ρs (now (index .entry)) → (fuel : ℕ) → Enough (now (index .entry)) names fuel
-        → Roots ρs fuel names r (now (heads .entry)) (now (heads .exit)) (now (moves .entry)) (now (moves .exit))) ⌝ }
+    requires { ⌜ (0 < names → ((ρs : List Rule) × Indexed ρs (now index))) × (names ≤ 64) ⌝ }
+    ensures { λ r. ⌜ Rooted (now (index .entry)) names r (now (heads .entry)) (now (heads .exit)) (now (moves .entry)) (now (moves .exit)) ⌝ }
 {
     let mut memo = [0u16; 512];
     let mut place = Place { state: 0, count: 0 };

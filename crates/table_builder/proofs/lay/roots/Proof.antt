@@ -24,7 +24,7 @@ cast-fragment : tie.Need-cast-fragment Inv-loop μ-loop
 cast-fragment c = omega (arith, c .before .before .before .before .loop-test .taken, c .before .before .before .before .before .before .before .before .before .pre .1)
 
 fragment-requires : tie.Need-fragment-requires Inv-loop μ-loop
-fragment-requires c κs = let pre = c .before .before .before .before .before .before .before .before .before .before .before .pre in let loop = c .before .before .before .before .before .before .before .loop in record { rules = pre .0 .0; index = pre .0 .1; role = omega (arith, c .before .before .before .before .before .before .loop-test .taken, pre .1); small = loop .inv .0 .small; memo = loop .inv .1 }
+fragment-requires c κs = let pre = c .before .before .before .before .before .before .before .before .before .before .before .pre in let loop-test = c .before .before .before .before .before .before .loop-test in let loop = c .before .before .before .before .before .before .before .loop in let i = pre .0 (omega (arith, loop-test .taken)) in record { rules = i .0; index = i .1; role = omega (arith, loop-test .taken, pre .1); small = loop .inv .0 .small; memo = loop .inv .1 }
 
 loop-less : tie.Need-loop-less Inv-loop μ-loop
 loop-less c = omega (arith, c .before .before .before .before .before .before .before .before .before .before .loop-test .taken)
