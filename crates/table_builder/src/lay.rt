@@ -80,24 +80,10 @@ fn fragment(index: &[u16], role: u8, place: Place, memo: &mut [u16], moves: &mut
         return again(r, place, memo, moves);
     }
     let lettered = letters(index, role, place, moves);
-    let own = rows(
-        index,
-        first_of(index, role),
-        role,
-        initial,
-        lettered,
-        memo,
-        moves,
-    );
-    let all = rows(
-        index,
-        first_mirror(index, role),
-        inverse(role),
-        initial,
-        own,
-        memo,
-        moves,
-    );
+    let first = first_of(index, role);
+    let own = rows(index, first, role, initial, lettered, memo, moves);
+    let mirror = first_mirror(index, role);
+    let all = rows(index, mirror, inverse(role), initial, own, memo, moves);
     keep(r, place, all, memo);
     all
 }
@@ -219,14 +205,8 @@ fn letters(index: &[u16], role: u8, place: Place, moves: &mut [u16]) -> Place
     let symmetric = has_kind(index, role, 1);
     let transitive = has_kind(index, role, 0);
     let first = transition(begun, true, initial, role as usize, last, moves);
-    let both = transition(
-        first,
-        symmetric,
-        initial,
-        inverse(role) as usize,
-        last,
-        moves,
-    );
+    let label = inverse(role) as usize;
+    let both = transition(first, symmetric, initial, label, last, moves);
     transition(both, transitive, last, 128, initial, moves)
 }
 

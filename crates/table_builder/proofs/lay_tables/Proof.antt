@@ -6,10 +6,16 @@ use Rattle.table_builder.proofs.lay_tables.Statement.{statement}
 use Rattle.table_builder.proofs.lay_tables.Tie as tie
 
 roots-requires : tie.Need-roots-requires
-roots-requires c κs = let pre = c .before .before .before .before .before .before .before .pre in let args = c .before .before .before .before .before .before .before .args in let plan = c .before .before .before .plan in roots-ready _ _ _ (pre .1) (length (args .heads .now)) (length (args .moves .now)) (plan .result) (plan .ensures _ (pre .1)) _ (c .before .before .names-of .ensures)
+roots-requires c κs =
+    let pre = c .before .before .before .before .before .before .before .pre in
+    let args = c .before .before .before .before .before .before .before .args in
+    let plan = c .before .before .before .plan in
+    roots-ready _ _ _ (pre .1) (length (args .heads .now)) (length (args .moves .now)) (plan .result) (plan .ensures _ (pre .1)) _ (c .before .before .names-of .ensures)
 
 returns : tie.Need-returns
-returns c = let plan = c .before .before .before .before .before .before .before .before .plan in λ s a. builds _ _ _ a _ _ (plan .result) (plan .ensures s a) _ _ _ _ (c .before .before .before .before .before .before .before .names-of .ensures) (c .before .before .before .before .roots .ensures)
+returns c =
+    let plan = c .before .before .before .before .before .before .before .before .plan in
+    λ s a. builds _ _ _ a _ _ (plan .result) (plan .ensures s a) _ _ _ _ (c .before .before .before .before .before .before .before .names-of .ensures) (c .before .before .before .before .roots .ensures)
 
 pub lay-tables-spec : {M : Type 1} → statement M
 lay-tables-spec =

@@ -64,13 +64,46 @@ abbrev rows-below : ℕ → In 3 rows-kinds.ps
 rows-below t = and 3 rows-kinds.ps (falls 3 rows-kinds.ps _<_ μ-rows t) rows.Pre
 
 abbrev fragment-claims : ℕ → fragment-lts.Claims
-fragment-claims t = (number-reads.Asked, number-reads.Learnt, again-reads.Asked, again-reads.Learnt, letters-reads.Asked, letters-reads.Learnt, first-of-reads.Asked, first-of-reads.Learnt, rows-below t, rows.Post, first-mirror-reads.Asked, first-mirror-reads.Learnt, inverse-reads.Asked, inverse-reads.Learnt, keep-reads.Asked, keep-reads.Learnt)
+fragment-claims t = (
+  number-reads.Asked,
+  number-reads.Learnt,
+  again-reads.Asked,
+  again-reads.Learnt,
+  letters-reads.Asked,
+  letters-reads.Learnt,
+  first-of-reads.Asked,
+  first-of-reads.Learnt,
+  rows-below t,
+  rows.Post,
+  first-mirror-reads.Asked,
+  first-mirror-reads.Learnt,
+  inverse-reads.Asked,
+  inverse-reads.Learnt,
+  keep-reads.Asked,
+  keep-reads.Learnt,
+)
 
 abbrev row-claims : ℕ → row-lts.Claims
-row-claims t = (row-of-reads.Asked, row-of-reads.Learnt, transition-reads.Asked, transition-reads.Learnt, inner-role-reads.Asked, inner-role-reads.Learnt, fragment-below t, fragment.Post)
+row-claims t = (
+  row-of-reads.Asked,
+  row-of-reads.Learnt,
+  transition-reads.Asked,
+  transition-reads.Learnt,
+  inner-role-reads.Asked,
+  inner-role-reads.Learnt,
+  fragment-below t,
+  fragment.Post,
+)
 
 abbrev rows-claims : ℕ → rows-lts.Claims
-rows-claims t = (row-below t, row.Post, number-reads.Asked, number-reads.Learnt, rows-below t, rows.Post)
+rows-claims t = (
+  row-below t,
+  row.Post,
+  number-reads.Asked,
+  number-reads.Learnt,
+  rows-below t,
+  rows.Post,
+)
 
 abbrev Inv-loop : row-lts.InvT-loop
 Inv-loop index k role initial memo₀ moves₀ row at₀ reached₀ j₀ memo moves at reached j =
@@ -80,31 +113,52 @@ abbrev μ-loop : row-lts.MeasureT-loop
 μ-loop index k role initial memo₀ moves₀ row at₀ reached₀ j₀ memo moves at reached j = row .size - j
 
 fragment-again-requires : (t : ℕ) → fragment-lts.Need-again-requires (fragment-claims t) (fragment-at t) fragment.Post
-fragment-again-requires t c κs = let pre = c .before .before .before .before .before .before .before .before .before .pre in ((pre .1 .role, pre .1 .memo .size), ((pre .1 .small, omega (arith, c .before .before .before .before .before .if1 .left)), again-held (pre .1) (rw (c .before .before .before .number .ensures .0) at (c .before .before .if2 .taken))))
+fragment-again-requires t c κs =
+    let pre = c .before .before .before .before .before .before .before .before .before .pre in
+    ((pre .1 .role, pre .1 .memo .size), ((pre .1 .small, omega (arith, c .before .before .before .before .before .if1 .left)), again-held (pre .1) (rw (c .before .before .before .number .ensures .0) at (c .before .before .if2 .taken))))
 
 fragment-returns-2 : (t : ℕ) → fragment-lts.Need-returns-2 (fragment-claims t) (fragment-at t) fragment.Post
 fragment-returns-2 t c = again-laid (c .before .before .before .before .before .before .before .before .before .before .before .before .pre .1) (rw (c .before .before .before .before .before .before .number .ensures .0) at (c .before .before .before .before .before .if2 .taken)) (c .before .before .again .ensures .0) (c .before .before .again .ensures .1) (c .before .before .again .kept .1 .1 .1 .0)
 
 fragment-letters-requires : (t : ℕ) → fragment-lts.Need-letters-requires (fragment-claims t) (fragment-at t) fragment.Post
-fragment-letters-requires t c κs = let pre = c .before .before .before .before .before .before .before .before .pre in ((pre .1 .rules, pre .1 .index), pre .1 .role, pre .1 .small, c .before .before .before .before .if1 .left)
+fragment-letters-requires t c κs =
+    let pre = c .before .before .before .before .before .before .before .before .pre in
+    ((pre .1 .rules, pre .1 .index), pre .1 .role, pre .1 .small, c .before .before .before .before .if1 .left)
 
 fragment-first-of-requires : (t : ℕ) → fragment-lts.Need-first-of-requires (fragment-claims t) (fragment-at t) fragment.Post
-fragment-first-of-requires t c κs = let pre = c .before .before .before .before .before .before .before .before .before .before .before .pre in (pre .1 .role, pre .1 .index .size)
+fragment-first-of-requires t c κs =
+    let pre = c .before .before .before .before .before .before .before .before .before .before .before .pre in
+    (pre .1 .role, pre .1 .index .size)
 
 fragment-rows-requires : (t : ℕ) → fragment-lts.Need-rows-requires (fragment-claims t) (fragment-at t) fragment.Post
-fragment-rows-requires t c κs = let pre = c .before .before .before .before .before .before .before .before .before .before .before .before .before .before .pre in let letters = c .before .before .before .before .before .letters in (omega (arith, pre .0), (ready-lettered (pre .1) (letters .ensures) (letters .kept .1 .1 .1 .0), (λ ρs i. rw (c .before .before .first-of .ensures) (at-start i (c .before .before .before .before .before .before .before .before .before .before .before .before .before .before .args .role) (pre .1 .role)), c .before .before .before .before .before .before .before .before .before .before .if1 .left)))
+fragment-rows-requires t c κs =
+    let pre = c .before .before .before .before .before .before .before .before .before .before .before .before .before .before .pre in
+    let letters = c .before .before .before .before .before .letters in
+    (omega (arith, pre .0), (ready-lettered (pre .1) (letters .ensures) (letters .kept .1 .1 .1 .0), (λ ρs i. rw (c .before .before .first-of .ensures) (at-start i (c .before .before .before .before .before .before .before .before .before .before .before .before .before .before .args .role) (pre .1 .role)), c .before .before .before .before .before .before .before .before .before .before .if1 .left)))
 
 fragment-first-mirror-requires : (t : ℕ) → fragment-lts.Need-first-mirror-requires (fragment-claims t) (fragment-at t) fragment.Post
-fragment-first-mirror-requires t c κs = let pre = c .before .before .before .before .before .before .before .before .before .before .before .before .before .before .before .before .before .before .before .pre in ((pre .1 .rules, pre .1 .index), pre .1 .role)
+fragment-first-mirror-requires t c κs =
+    let pre = c .before .before .before .before .before .before .before .before .before .before .before .before .before .before .before .before .before .before .before .pre in
+    ((pre .1 .rules, pre .1 .index), pre .1 .role)
 
 fragment-rows-requires-2 : (t : ℕ) → fragment-lts.Need-rows-requires-2 (fragment-claims t) (fragment-at t) fragment.Post
-fragment-rows-requires-2 t c κs = let pre = c .before .before .before .before .before .before .before .before .before .before .before .before .before .before .before .before .before .before .before .before .before .before .before .pre in let args = c .before .before .before .before .before .before .before .before .before .before .before .before .before .before .before .before .before .before .before .before .before .before .before .args in (omega (arith, pre .0, ap (level-in (args .index .now)) (ap name (c .before .before .inverse .ensures) ∙ name-inv (args .role))), (ready-laid (pre .1) (c .before .before .before .before .before .before .before .before .rows .ensures) _ (rw (c .before .before .inverse .ensures) (inv-below _ 64 (pre .1 .role))), (λ ρs i. rw (c .before .before .inverse .ensures) (c .before .before .before .first-mirror .ensures .here ρs i), c .before .before .before .before .before .before .before .before .before .before .before .before .before .before .before .before .before .before .before .if1 .left)))
+fragment-rows-requires-2 t c κs =
+    let pre = c .before .before .before .before .before .before .before .before .before .before .before .before .before .before .before .before .before .before .before .before .before .before .before .pre in
+    let args = c .before .before .before .before .before .before .before .before .before .before .before .before .before .before .before .before .before .before .before .before .before .before .before .args in
+    (omega (arith, pre .0, ap (level-in (args .index .now)) (ap name (c .before .before .inverse .ensures) ∙ name-inv (args .role))), (ready-laid (pre .1) (c .before .before .before .before .before .before .before .before .rows .ensures) _ (rw (c .before .before .inverse .ensures) (inv-below _ 64 (pre .1 .role))), (λ ρs i. rw (c .before .before .inverse .ensures) (c .before .before .before .first-mirror .ensures .here ρs i), c .before .before .before .before .before .before .before .before .before .before .before .before .before .before .before .before .before .before .before .if1 .left)))
 
 fragment-keep-requires : (t : ℕ) → fragment-lts.Need-keep-requires (fragment-claims t) (fragment-at t) fragment.Post
-fragment-keep-requires t c κs = let pre = c .before .before .before .before .before .before .before .before .before .before .before .before .before .before .before .before .before .before .before .before .before .before .before .before .before .before .before .before .before .pre in let rows2 = c .before .before .before .before .before .rows2 in ((pre .1 .role, rows2 .ensures .memo .size), fragment-after (pre .1) _ _ (c .before .before .before .before .before .before .before .before .before .before .before .before .before .before .before .before .before .before .before .before .letters .ensures) _ (c .before .before .before .before .before .before .before .before .before .before .before .before .before .before .before .before .before .first-of .ensures) (c .before .before .before .before .before .before .before .before .before .before .before .before .before .before .rows .ensures) _ (c .before .before .before .before .before .before .before .before .before .first-mirror .ensures) _ (c .before .before .before .before .before .before .before .before .inverse .ensures) (rows2 .ensures))
+fragment-keep-requires t c κs =
+    let pre = c .before .before .before .before .before .before .before .before .before .before .before .before .before .before .before .before .before .before .before .before .before .before .before .before .before .before .before .before .before .pre in
+    let rows2 = c .before .before .before .before .before .rows2 in
+    ((pre .1 .role, rows2 .ensures .memo .size), fragment-after (pre .1) _ _ (c .before .before .before .before .before .before .before .before .before .before .before .before .before .before .before .before .before .before .before .before .letters .ensures) _ (c .before .before .before .before .before .before .before .before .before .before .before .before .before .before .before .before .before .first-of .ensures) (c .before .before .before .before .before .before .before .before .before .before .before .before .before .before .rows .ensures) _ (c .before .before .before .before .before .before .before .before .before .first-mirror .ensures) _ (c .before .before .before .before .before .before .before .before .inverse .ensures) (rows2 .ensures))
 
 fragment-returns-3 : (t : ℕ) → fragment-lts.Need-returns-3 (fragment-claims t) (fragment-at t) fragment.Post
-fragment-returns-3 t c = let letters = c .before .before .before .before .before .before .before .before .before .before .before .before .before .before .before .before .before .before .before .before .before .before .before .letters in let rows = c .before .before .before .before .before .before .before .before .before .before .before .before .before .before .before .before .before .rows in let rows2 = c .before .before .before .before .before .before .before .before .rows2 in fragment-laid (c .before .before .before .before .before .before .before .before .before .before .before .before .before .before .before .before .before .before .before .before .before .before .before .before .before .before .before .before .before .before .before .before .pre .1) _ _ (letters .ensures) _ (c .before .before .before .before .before .before .before .before .before .before .before .before .before .before .before .before .before .before .before .before .first-of .ensures) (rows .ensures) _ (c .before .before .before .before .before .before .before .before .before .before .before .before .first-mirror .ensures) _ (c .before .before .before .before .before .before .before .before .before .before .before .inverse .ensures) (rows2 .ensures) (rows2 .kept .1 .1 .1 .1 .1 .1 .0 ∙ (rows .kept .1 .1 .1 .1 .1 .1 .0 ∙ letters .kept .1 .1 .1 .0)) _ (c .before .before .keep .ensures)
+fragment-returns-3 t c =
+    let letters = c .before .before .before .before .before .before .before .before .before .before .before .before .before .before .before .before .before .before .before .before .before .before .before .letters in
+    let rows = c .before .before .before .before .before .before .before .before .before .before .before .before .before .before .before .before .before .rows in
+    let rows2 = c .before .before .before .before .before .before .before .before .rows2 in
+    fragment-laid (c .before .before .before .before .before .before .before .before .before .before .before .before .before .before .before .before .before .before .before .before .before .before .before .before .before .before .before .before .before .before .before .before .pre .1) _ _ (letters .ensures) _ (c .before .before .before .before .before .before .before .before .before .before .before .before .before .before .before .before .before .before .before .before .first-of .ensures) (rows .ensures) _ (c .before .before .before .before .before .before .before .before .before .before .before .before .first-mirror .ensures) _ (c .before .before .before .before .before .before .before .before .before .before .before .inverse .ensures) (rows2 .ensures) (rows2 .kept .1 .1 .1 .1 .1 .1 .0 ∙ (rows .kept .1 .1 .1 .1 .1 .1 .0 ∙ letters .kept .1 .1 .1 .0)) _ (c .before .before .keep .ensures)
 
 row-row-of-requires : (t : ℕ) → row-lts.Need-row-of-requires (row-claims t) (row-at t) row.Post Inv-loop μ-loop
 row-row-of-requires t c κs = ((c .before .before .before .pre .1 .0 .rules, c .before .before .before .pre .1 .0 .index), c .before .before .before .pre .1 .1 .0, c .before .before .before .pre .1 .1 .2, c .before .before .before .pre .1 .1 .1)
@@ -113,13 +167,19 @@ row-returns : (t : ℕ) → row-lts.Need-returns (row-claims t) (row-at t) row.P
 row-returns t c = row-none (c .before .before .row-of .ensures) (c .if1 .taken) (c .before .before .before .before .before .before .pre .1 .0)
 
 row-transition-requires : (t : ℕ) → row-lts.Need-transition-requires (row-claims t) (row-at t) row.Post Inv-loop μ-loop
-row-transition-requires t c κs = let loop = c .before .before .before .loop in (loop .inv .small, omega (arith, loop .inv .near), omega arith, omega (arith, loop .inv .small .state))
+row-transition-requires t c κs =
+    let loop = c .before .before .before .loop in
+    (loop .inv .small, omega (arith, loop .inv .near), omega arith, omega (arith, loop .inv .small .state))
 
 row-inner-role-requires : (t : ℕ) → row-lts.Need-inner-role-requires (row-claims t) (row-at t) row.Post Inv-loop μ-loop
 row-inner-role-requires t c κs = (c .before .before .before .before .if2 .taken, (_, c .before .before .before .before .before .before .before .before .before .row-of .ensures .inner))
 
 row-fragment-requires : (t : ℕ) → row-lts.Need-fragment-requires (row-claims t) (row-at t) row.Post Inv-loop μ-loop
-row-fragment-requires t c κs = let pre = c .before .before .before .before .before .before .before .before .before .before .before .before .before .before .before .before .pre in let args = c .before .before .before .before .before .before .before .before .before .before .before .before .before .before .before .before .args in let transition = c .before .before .before .before .before .transition in (omega (arith, pre .0, c .before .before .inner-role .ensures .lower (level-in (args .index .now) (name (args .role))) (c .before .before .before .before .before .before .before .before .before .before .before .before .row-of .ensures .inner)), ready-added (pre .1 .0) (transition .ensures) (transition .kept .1 .1 .1 .1 .1 .0) (c .before .before .before .before .before .before .before .before .before .loop .inv .memo) _ (c .before .before .inner-role .ensures .small))
+row-fragment-requires t c κs =
+    let pre = c .before .before .before .before .before .before .before .before .before .before .before .before .before .before .before .before .pre in
+    let args = c .before .before .before .before .before .before .before .before .before .before .before .before .before .before .before .before .args in
+    let transition = c .before .before .before .before .before .transition in
+    (omega (arith, pre .0, c .before .before .inner-role .ensures .lower (level-in (args .index .now) (name (args .role))) (c .before .before .before .before .before .before .before .before .before .before .before .before .row-of .ensures .inner)), ready-added (pre .1 .0) (transition .ensures) (transition .kept .1 .1 .1 .1 .1 .0) (c .before .before .before .before .before .before .before .before .before .loop .inv .memo) _ (c .before .before .inner-role .ensures .small))
 
 row-add-reached : (t : ℕ) → row-lts.Need-add-reached (row-claims t) (row-at t) row.Post Inv-loop μ-loop
 row-add-reached t c = omega (arith, c .before .before .before .before .before .before .before .before .before .before .before .before .before .before .loop .inv .small .state)
@@ -131,10 +191,15 @@ row-loop-less : (t : ℕ) → row-lts.Need-loop-less (row-claims t) (row-at t) r
 row-loop-less t c = omega (arith, c .before .before .before .before .before .before .before .before .before .before .before .before .if2 .taken)
 
 row-loop-again : (t : ℕ) → row-lts.Need-loop-again (row-claims t) (row-at t) row.Post Inv-loop μ-loop
-row-loop-again t c = let transition = c .before .before .before .before .before .before .before .before .before .before .transition in let fragment = c .before .before .before .before .fragment in rowing-next (c .before .before .before .before .before .before .before .before .before .before .before .before .before .before .before .before .before .row-of .ensures) (c .before .before .before .before .before .before .before .before .before .before .before .before .before .before .loop .inv) (transition .kept .1 .1 .1 .1 .1 .0) (transition .ensures) (c .before .before .before .before .before .before .before .before .before .before .before .before .if2 .taken) (c .before .before .before .before .before .before .before .inner-role .ensures) (fragment .kept .1 .1 .1 .1 .0) (fragment .ensures)
+row-loop-again t c =
+    let transition = c .before .before .before .before .before .before .before .before .before .before .transition in
+    let fragment = c .before .before .before .before .fragment in
+    rowing-next (c .before .before .before .before .before .before .before .before .before .before .before .before .before .before .before .before .before .row-of .ensures) (c .before .before .before .before .before .before .before .before .before .before .before .before .before .before .loop .inv) (transition .kept .1 .1 .1 .1 .1 .0) (transition .ensures) (c .before .before .before .before .before .before .before .before .before .before .before .before .if2 .taken) (c .before .before .before .before .before .before .before .inner-role .ensures) (fragment .kept .1 .1 .1 .1 .0) (fragment .ensures)
 
 row-transition-requires-2 : (t : ℕ) → row-lts.Need-transition-requires-2 (row-claims t) (row-at t) row.Post Inv-loop μ-loop
-row-transition-requires-2 t c κs = let loop = c .before .before .before .loop in (loop .inv .small, omega (arith, loop .inv .near), omega arith, omega (arith, c .before .before .before .before .before .before .row-of .ensures .near .1))
+row-transition-requires-2 t c κs =
+    let loop = c .before .before .before .loop in
+    (loop .inv .small, omega (arith, loop .inv .near), omega arith, omega (arith, c .before .before .before .before .before .before .row-of .ensures .near .1))
 
 row-same-length : (t : ℕ) → row-lts.Need-same-length (row-claims t) (row-at t) row.Post Inv-loop μ-loop
 row-same-length t c = c .before .before .before .before .before .before .loop .inv .memo .size ∙ sym (c .before .before .before .before .before .before .before .before .before .before .before .before .before .pre .1 .0 .memo .size)
@@ -146,16 +211,65 @@ row-returns-2 : (t : ℕ) → row-lts.Need-returns-2 (row-claims t) (row-at t) r
 row-returns-2 t c = rowing-end (c .before .before .before .before .before .before .before .before .before .row-of .ensures) (c .before .before .before .before .before .before .loop .inv) (c .before .before .transition2 .kept .1 .1 .1 .1 .1 .0) (c .before .before .transition2 .ensures) (c .before .before .before .before .if2 .left) (c .before .before .before .before .before .before .before .if1 .left)
 
 rows-row-requires : (t : ℕ) → rows-lts.Need-row-requires (rows-claims t) (rows-at t) rows.Post
-rows-row-requires t c κs = let pre = c .before .before .before .before .before .before .pre in (omega (arith, pre .0, c .before .before .if1 .left), (pre .1 .0, (pre .1 .1 .0, pre .1 .1 .1, c .before .before .if1 .left)))
+rows-row-requires t c κs =
+    let pre = c .before .before .before .before .before .before .pre in
+    (omega (arith, pre .0, c .before .before .if1 .left), (pre .1 .0, (pre .1 .1 .0, pre .1 .1 .1, c .before .before .if1 .left)))
 
 rows-number-requires : (t : ℕ) → rows-lts.Need-number-requires (rows-claims t) (rows-at t) rows.Post
 rows-number-requires t c κs = omega (arith, c .before .before .before .before .before .before .before .if1 .left, c .before .before .before .before .before .before .before .before .before .before .before .pre .1 .0 .index .size)
 
 rows-rows-requires : (t : ℕ) → rows-lts.Need-rows-requires (rows-claims t) (rows-at t) rows.Post
-rows-rows-requires t c κs = let pre = c .before .before .before .before .before .before .before .before .before .before .before .before .before .before .pre in let if1 = c .before .before .before .before .before .before .before .before .before .before .if1 in let args = c .before .before .before .before .before .before .before .before .before .before .before .before .before .before .args in (omega (arith, pre .0, if1 .left, c .before .before .number .ensures .0, later (pre .1 .0 .index) (args .role) (args .k) (if1 .left) (pre .1 .1 .0 (pre .1 .0 .rules) (pre .1 .0 .index))), (ready-laid (pre .1 .0) (c .before .before .before .before .before .before .before .row .ensures) _ (pre .1 .0 .role), (here-next _ _ (args .initial) (pre .1 .1 .0) (if1 .left) _ (c .before .before .number .ensures .0), pre .1 .1 .1)))
+rows-rows-requires t c κs =
+    let pre = c .before .before .before .before .before .before .before .before .before .before .before .before .before .before .pre in
+    let if1 = c .before .before .before .before .before .before .before .before .before .before .if1 in
+    let args = c .before .before .before .before .before .before .before .before .before .before .before .before .before .before .args in
+    (omega (arith, pre .0, if1 .left, c .before .before .number .ensures .0, later (pre .1 .0 .index) (args .role) (args .k) (if1 .left) (pre .1 .1 .0 (pre .1 .0 .rules) (pre .1 .0 .index))), (ready-laid (pre .1 .0) (c .before .before .before .before .before .before .before .row .ensures) _ (pre .1 .0 .role), (here-next _ _ (args .initial) (pre .1 .1 .0) (if1 .left) _ (c .before .before .number .ensures .0), pre .1 .1 .1)))
 
 rows-returns-2 : (t : ℕ) → rows-lts.Need-returns-2 (rows-claims t) (rows-at t) rows.Post
 rows-returns-2 t c = rows-more _ _ _ (c .before .before .before .before .before .before .before .before .before .before .before .before .before .before .before .before .before .before .before .pre .1 .1 .0) (c .before .before .before .before .before .before .before .before .before .before .before .before .before .before .before .if1 .left) _ (c .before .before .before .before .before .before .before .number .ensures .0) (c .before .before .before .before .before .before .before .before .before .before .before .before .row .ensures) (c .before .before .before .before .rows .ensures)
 
 pub +fragment+row+rows-spec : {M : Type 1} → statement M
-+fragment+row+rows-spec = close μ-fragment μ-row μ-rows (λ t. fragment-lts.spec (fragment-claims t) (fragment-at t) fragment.Post (λ c. over-laid (c .before .before .before .before .pre .1) (c .if1 .taken)) (λ c κs. let pre = c .before .before .before .before .before .pre in omega (arith, pre .1 .role, pre .1 .memo .size)) (fragment-again-requires t) (λ c. search needs) (λ c. search needs) (fragment-returns-2 t) (fragment-letters-requires t) (fragment-first-of-requires t) (fragment-rows-requires t) (fragment-first-mirror-requires t) (λ c κs. search needs) (fragment-rows-requires-2 t) (fragment-keep-requires t) (λ c. search needs) (λ c. search needs) (fragment-returns-3 t)) (λ t. row-lts.spec (row-claims t) (row-at t) row.Post Inv-loop μ-loop (row-row-of-requires t) (row-returns t) (λ c. rowing-start (c .before .before .row-of .ensures) (c .before .before .before .before .before .before .pre .1 .0)) (row-transition-requires t) (row-inner-role-requires t) (row-fragment-requires t) (row-add-reached t) (row-add-j t) (row-loop-less t) (row-loop-again t) (row-transition-requires-2 t) (row-same-length t) (row-same-length-2 t) (row-returns-2 t)) λ t. rows-lts.spec (rows-claims t) (rows-at t) rows.Post (λ c. rows-none _ _ _ (c .before .before .before .before .pre .1 .0) (c .if1 .taken)) (rows-row-requires t) (λ c. omega (arith, c .before .before .before .before .before .before .before .if1 .left)) (λ c. omega (arith, c .before .before .before .before .before .before .before .if1 .left)) (rows-number-requires t) (rows-rows-requires t) (λ c. search needs) (λ c. search needs) (rows-returns-2 t)
++fragment+row+rows-spec =
+    close μ-fragment μ-row μ-rows
+    (λ t. fragment-lts.spec (fragment-claims t) (fragment-at t) fragment.Post
+    (λ c. over-laid (c .before .before .before .before .pre .1) (c .if1 .taken))
+    (λ c κs. let pre = c .before .before .before .before .before .pre in omega (arith, pre .1 .role, pre .1 .memo .size))
+    (fragment-again-requires t)
+    (λ c. search needs)
+    (λ c. search needs)
+    (fragment-returns-2 t)
+    (fragment-letters-requires t)
+    (fragment-first-of-requires t)
+    (fragment-rows-requires t)
+    (fragment-first-mirror-requires t)
+    (λ c κs. search needs)
+    (fragment-rows-requires-2 t)
+    (fragment-keep-requires t)
+    (λ c. search needs)
+    (λ c. search needs)
+    (fragment-returns-3 t))
+    (λ t. row-lts.spec (row-claims t) (row-at t) row.Post Inv-loop μ-loop
+    (row-row-of-requires t)
+    (row-returns t)
+    (λ c. rowing-start (c .before .before .row-of .ensures) (c .before .before .before .before .before .before .pre .1 .0))
+    (row-transition-requires t)
+    (row-inner-role-requires t)
+    (row-fragment-requires t)
+    (row-add-reached t)
+    (row-add-j t)
+    (row-loop-less t)
+    (row-loop-again t)
+    (row-transition-requires-2 t)
+    (row-same-length t)
+    (row-same-length-2 t)
+    (row-returns-2 t))
+    λ t. rows-lts.spec (rows-claims t) (rows-at t) rows.Post
+    (λ c. rows-none _ _ _ (c .before .before .before .before .pre .1 .0) (c .if1 .taken))
+    (rows-row-requires t)
+    (λ c. omega (arith, c .before .before .before .before .before .before .before .if1 .left))
+    (λ c. omega (arith, c .before .before .before .before .before .before .before .if1 .left))
+    (rows-number-requires t)
+    (rows-rows-requires t)
+    (λ c. search needs)
+    (λ c. search needs)
+    (rows-returns-2 t)

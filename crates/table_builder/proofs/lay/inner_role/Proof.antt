@@ -9,10 +9,15 @@ use Rattle.table_builder.proofs.lay.inner_role.Statement.{statement}
 use Rattle.table_builder.proofs.lay.inner_role.Tie as tie
 
 cast-inverse : tie.Need-cast-inverse
-cast-inverse c = let pre = c .before .before .before .before .pre in let args = c .before .before .before .before .args in omega (arith, c .number .ensures .0, (pre .1 .1 .roles (args .row .size - 1 - args .j) (omega (arith, pre .0)) .0))
+cast-inverse c =
+    let pre = c .before .before .before .before .pre in
+    let args = c .before .before .before .before .args in
+    omega (arith, c .number .ensures .0, (pre .1 .1 .roles (args .row .size - 1 - args .j) (omega (arith, pre .0)) .0))
 
 returns : tie.Need-returns
-returns c = let pre = c .before .before .before .before .before .pre in inner-mirrored (pre .1 .1) _ (pre .0) _ (c .before .before .before .if1 .taken) (c .inverse .ensures ∙ ap inv (c .before .number .ensures .0))
+returns c =
+    let pre = c .before .before .before .before .before .pre in
+    inner-mirrored (pre .1 .1) _ (pre .0) _ (c .before .before .before .if1 .taken) (c .inverse .ensures ∙ ap inv (c .before .number .ensures .0))
 
 cast-result : tie.Need-cast-result
 cast-result c = omega (arith, c .number2 .ensures .0, c .before .before .before .pre .1 .1 .roles (c .before .before .before .args .j) (c .before .before .before .pre .0) .0)

@@ -24,13 +24,19 @@ cast-fragment : tie.Need-cast-fragment Inv-loop μ-loop
 cast-fragment c = omega (arith, c .before .before .before .before .loop-test .taken, c .before .before .before .before .before .before .before .before .before .pre .1)
 
 fragment-requires : tie.Need-fragment-requires Inv-loop μ-loop
-fragment-requires c κs = let pre = c .before .before .before .before .before .before .before .before .before .before .before .pre in let loop-test = c .before .before .before .before .before .before .loop-test in let loop = c .before .before .before .before .before .before .before .loop in let i = pre .0 (omega (arith, loop-test .taken)) in record { rules = i .0; index = i .1; role = omega (arith, loop-test .taken, pre .1); small = loop .inv .0 .small; memo = loop .inv .1 }
+fragment-requires c κs =
+    let pre = c .before .before .before .before .before .before .before .before .before .before .before .pre in
+    let loop-test = c .before .before .before .before .before .before .loop-test in
+    let loop = c .before .before .before .before .before .before .before .loop in
+    let i = pre .0 (omega (arith, loop-test .taken)) in record { rules = i .0; index = i .1; role = omega (arith, loop-test .taken, pre .1); small = loop .inv .0 .small; memo = loop .inv .1 }
 
 loop-less : tie.Need-loop-less Inv-loop μ-loop
 loop-less c = omega (arith, c .before .before .before .before .before .before .before .before .before .before .loop-test .taken)
 
 loop-again : tie.Need-loop-again Inv-loop μ-loop
-loop-again c = let fragment = c .before .before .before .fragment in (rooting-next _ _ _ _ _ _ _ _ (c .before .before .before .before .before .before .before .before .before .before .before .loop .inv .0) (c .before .before .before .before .before .before .before .before .before .before .loop-test .taken) _ (c .before .before .before .before .before .before .before .before .put .ensures) _ _ (fragment .ensures .small) (fragment .kept .1 .1 .1 .1 .0) (fragment .ensures .laid), fragment .ensures .memo)
+loop-again c =
+    let fragment = c .before .before .before .fragment in
+    (rooting-next _ _ _ _ _ _ _ _ (c .before .before .before .before .before .before .before .before .before .before .before .loop .inv .0) (c .before .before .before .before .before .before .before .before .before .before .loop-test .taken) _ (c .before .before .before .before .before .before .before .before .put .ensures) _ _ (fragment .ensures .small) (fragment .kept .1 .1 .1 .1 .0) (fragment .ensures .laid), fragment .ensures .memo)
 
 pub roots-spec : {M : Type 1} → statement M
 roots-spec =

@@ -7,16 +7,24 @@ use Rattle.table_builder.proofs.lay.row_of.Statement.{statement}
 use Rattle.table_builder.proofs.lay.row_of.Tie as tie
 
 returns : tie.Need-returns
-returns c = let pre = c .before .before .before .before .before .before .pre in found-straight (pre .0 .1) _ _ _ (pre .1) (pre .2) (pre .3) _ _ _ (c .before .before .before .before .number .ensures .0) (c .before .before .before .number2 .ensures .0) (c .before .before .inner-count .ensures) (sym (c .before .number3 .ensures .0) ∙ c .if1 .taken)
+returns c =
+    let pre = c .before .before .before .before .before .before .pre in
+    found-straight (pre .0 .1) _ _ _ (pre .1) (pre .2) (pre .3) _ _ _ (c .before .before .before .before .number .ensures .0) (c .before .before .before .number2 .ensures .0) (c .before .before .inner-count .ensures) (sym (c .before .number3 .ensures .0) ∙ c .if1 .taken)
 
 sub-t10 : tie.Need-sub-t10
-sub-t10 c = let pre = c .before .before .before .before .before .before .pre in omega (arith, c .before .before .before .number2 .ensures .0, pre .0 .1 .entry (c .before .before .before .before .before .before .args .k) (pre .1 (pre .0 .0) (pre .0 .1) .real (pre .2)) .to)
+sub-t10 c =
+    let pre = c .before .before .before .before .before .before .pre in
+    omega (arith, c .before .before .before .number2 .ensures .0, pre .0 .1 .entry (c .before .before .before .before .before .before .args .k) (pre .1 (pre .0 .0) (pre .0 .1) .real (pre .2)) .to)
 
 sub-t16 : tie.Need-sub-t16
-sub-t16 c = let pre = c .before .before .before .before .before .before .pre in omega (arith, c .before .before .before .before .number .ensures .0, pre .0 .1 .entry (c .before .before .before .before .before .before .args .k) (pre .1 (pre .0 .0) (pre .0 .1) .real (pre .2)) .from)
+sub-t16 c =
+    let pre = c .before .before .before .before .before .before .pre in
+    omega (arith, c .before .before .before .before .number .ensures .0, pre .0 .1 .entry (c .before .before .before .before .before .before .args .k) (pre .1 (pre .0 .0) (pre .0 .1) .real (pre .2)) .from)
 
 returns-2 : tie.Need-returns-2
-returns-2 c = let pre = c .before .before .before .before .before .before .pre in found-mirrored (pre .0 .1) _ _ _ (pre .1) (pre .2) (pre .3) _ _ _ (c .before .before .before .before .number .ensures .0) (c .before .before .before .number2 .ensures .0) (c .before .before .inner-count .ensures) (λ e. c .if1 .left (c .before .number3 .ensures .0 ∙ e))
+returns-2 c =
+    let pre = c .before .before .before .before .before .before .pre in
+    found-mirrored (pre .0 .1) _ _ _ (pre .1) (pre .2) (pre .3) _ _ _ (c .before .before .before .before .number .ensures .0) (c .before .before .before .number2 .ensures .0) (c .before .before .inner-count .ensures) (λ e. c .if1 .left (c .before .number3 .ensures .0 ∙ e))
 
 pub row-of-spec : {M : Type 1} → statement M
 row-of-spec =
