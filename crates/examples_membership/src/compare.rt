@@ -1,41 +1,24 @@
 // Puts a question to the answerer and to the second method.
 use crate::chain::spelled;
-use crate::counts::DERIVED;
-use crate::rules::Rules;
 use crate::sample::Question;
 use crate::second::derives;
 use query_answerer::Answer;
 use text_parts::part;
 
-// Whether the two methods agree, and say yes where the chain was derived; and whether they say yes.
-pub(crate) struct Compared {
-    pub(crate) agreed: bool,
-    pub(crate) yes: bool,
+// Puts a question to tables and to rules. What is to be counted, as in `counts`: asked, agreed on, and answered by yes.
+pub(crate) fn compare(heads: &[u16], moves: &[u16], rules: [u64; 192], question: Question) -> u64 {
+    let space = spelled(question.chain);
+    let links = part(&space, 0, (question.chain % 16) as usize);
+    let first = said(query_answerer::ask(heads, moves, (question.role % 16) as u8, links));
+    let second = derives(rules, question.role, question.chain);
+    (1 | ((first == second) as u64) << 1 | second << 2) << question.kind % 4 * 3
 }
 
-// Puts a question to tables and to rules.
-pub(crate) fn compare(heads: &[u16], moves: &[u16], rules: Rules, question: Question) -> Compared {
-    let chain = question.chain;
-    let space = spelled(chain);
-    let links = part(&space, 0, chain.size);
-    let first = query_answerer::ask(heads, moves, (question.role % 256) as u8, links);
-    let second = derives(rules, question.role, chain);
-    Compared {
-        agreed: expected(question.kind, first, second),
-        yes: second,
-    }
-}
-
-// Whether two answers agree, and are yes where the chain was derived.
-fn expected(kind: usize, first: Answer, second: bool) -> bool {
-    match first {
-        Answer::Yes => second,
-        Answer::No => {
-            if second {
-                return false;
-            }
-            kind != DERIVED
-        }
-        Answer::Refused(_) => false,
+// An answer as a number: 1 for yes, 0 for no, else the cause of the refusal.
+pub(crate) fn said(answer: Answer) -> u64 {
+    match answer {
+        Answer::Yes => 1,
+        Answer::No => 0,
+        Answer::Refused(refusal) => query_checker::cause(refusal) as u64,
     }
 }

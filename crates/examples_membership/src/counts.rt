@@ -1,44 +1,37 @@
-// Counts of books and questions, and the lines that tell them.
-use crate::compare::Compared;
+// Counts of books and questions, and the lines that tell them. Questions of kind n are counted from 3 n on: asked, agreed on, and answered by yes.
+// The kinds are derived, nearly derived and random chains, and every chain in turn.
 use text_parts::byte;
 use text_parts::part;
 
-// Kinds of chains: derived from the role, nearly derived, random, and every chain in turn.
-pub(crate) const DERIVED: usize = 0;
-
-pub(crate) const NEARLY: usize = 1;
-
-pub(crate) const RANDOM: usize = 2;
-
-pub(crate) const EVERY: usize = 3;
-
 // Books made.
-pub(crate) const MADE: usize = 12;
+pub(crate) const MADE: u64 = 12;
 
 // Books refused by cause n are counted at REFUSED + n.
-pub(crate) const REFUSED: usize = 12;
+pub(crate) const REFUSED: u64 = 12;
 
 // Books accepted.
-pub(crate) const ACCEPTED: usize = 24;
+pub(crate) const ACCEPTED: u64 = 24;
 
 // The most states of an accepted book.
-pub(crate) const STATES: usize = 25;
+const STATES: usize = 25;
 
 // Accepted books with mark n are counted at MARKED + n.
-pub(crate) const MARKED: usize = 25;
+pub(crate) const MARKED: u64 = 25;
 
-// Questions of kind n are counted from 3 n on: asked, agreed on, and answered by yes.
-pub(crate) fn add_question(counts: [u64; 32], kind: usize, compared: Compared) -> [u64; 32] {
-    let asked = add(counts, kind % 4 * 3, 1);
-    let agreed = add(asked, kind % 4 * 3 + 1, compared.agreed as u64);
-    add(agreed, kind % 4 * 3 + 2, compared.yes as u64)
-}
-
-pub(crate) fn add(counts: [u64; 32], at: usize, n: u64) -> [u64; 32] {
-    let mut sums = counts;
-    let place = at % 32;
-    sums[place] = std::num::wrapping_add_u64(sums[place], n);
-    sums
+// Adds 1 to each count i where bit i is set, and keeps the most states.
+pub(crate) fn add(before: [u64; 32], bits: u64, states: u64) -> [u64; 32] {
+    let mut counts = before;
+    let mut rest = bits;
+    let mut i = 0;
+    while i < 32 {
+        counts[i] = std::num::wrapping_add_u64(counts[i], rest % 2);
+        rest = rest >> 1;
+        i += 1;
+    }
+    if counts[STATES] < states {
+        counts[STATES] = states;
+    }
+    counts
 }
 
 // Writes a text in which the byte 128 + i stands for count i.

@@ -1,14 +1,13 @@
 // Tries the answerer on document 01's questions, on tables that no book gave and on every edge of causes 12 to 14; then compares it with a
 // second method, which decides derivation from the rules alone, and shows differences that it must find. `stdin` holds what is tried, a line each;
 // `stdout` holds what the program must write.
-mod built;
+mod build;
 mod chain;
 mod compare;
 mod counts;
 mod draw;
 mod line;
 mod make;
-mod print;
 mod rules;
 mod sample;
 mod second;
@@ -25,19 +24,14 @@ fn main() {
     try_lines(&space[..size]);
 }
 
-// Tries up to a thousand lines, to the first at which the two methods differ where they must agree, or agree where they must differ.
+// Tries up to a thousand lines.
 fn try_lines(script: &[u8]) {
     let mut at = 0;
     let mut turns = 1000usize;
     while 0 < turns {
         turns -= 1;
-        if script.len() <= at {
-            return;
-        }
         let end = find(script, at, b'\n');
-        if !try_line(part(script, at, end)) {
-            return;
-        }
+        try_line(part(script, at, end));
         at = std::num::wrapping_add_usize(end, 1);
     }
 }

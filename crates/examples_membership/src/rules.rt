@@ -1,69 +1,52 @@
-// The rules of a well-formed book of up to 8 rules over roles below 16, read from its bytes.
-use crate::chain::Chain;
-use crate::chain::inverse;
-use crate::chain::push;
+// The rules of a well-formed book of up to 8 rules over roles below 16, read from its bytes. A rule is a number of 4-bit digits like its bytes: the
+// right role, then the left side as a chain.
 use text_parts::byte;
 
-// The numbers of a book's last name and last rule, and the bytes of each rule, packed like the links of a chain: right role, length, left roles.
-pub(crate) struct Rules {
-    pub(crate) last_name: usize,
-    pub(crate) last_rule: usize,
-    pub(crate) packed: [u64; 8],
-}
-
-pub(crate) fn rules_of(book: &[u8]) -> Rules {
-    let mut packed = [0u64; 8];
-    let count = byte(book, 6) as usize;
+// The rules, each followed by its mirror, over and over.
+pub(crate) fn rules_of(book: &[u8]) -> [u64; 192] {
+    let mut rules = [0u64; 192];
     let mut at = 8;
     let mut i = 0;
-    while i < count {
+    while i < 96 {
         let rule = rule_at(book, at);
-        packed[i % 8] = rule.links;
-        at = at % 4096 + rule.size % 16;
+        rules[i * 2] = rule;
+        rules[i * 2 + 1] = mirror(rule);
+        at = next_rule(book.len(), at, rule);
         i += 1;
     }
-    Rules {
-        last_name: (byte(book, 5) as usize + 63) % 64,
-        last_rule: (count + 7) % 8,
-        packed: packed,
-    }
+    rules
 }
 
-// The bytes of the rule at a place.
-fn rule_at(book: &[u8], at: usize) -> Chain {
+// The place of the rule after the one at a place; after the last one that of the first.
+fn next_rule(size: usize, at: usize, rule: u64) -> usize {
+    let next = at % 4096 + (rule >> 4) as usize % 16 + 2;
+    if next < size {
+        return next;
+    }
+    8
+}
+
+fn rule_at(book: &[u8], at: usize) -> u64 {
     let start = at % 4096;
-    let size = byte(book, start + 1) as usize + 2;
-    let mut rule = Chain { links: 0, size: 0 };
-    let mut i = 0;
-    while i < size {
-        rule = push(rule, byte(book, start + i) as u64);
+    let end = byte(book, start + 1) as u64 + 2;
+    let mut rule = 0;
+    let mut i = 0u64;
+    while i < end {
+        rule = rule | (byte(book, start + i as usize) as u64) << i % 16 * 4;
         i += 1;
     }
     rule
 }
 
-pub(crate) struct Rule {
-    pub(crate) right: u64,
-    pub(crate) left: Chain,
-}
-
-// Rule i, counted round and round, or its mirror where `mirrored` is 1.
-pub(crate) fn nth(rules: Rules, i: usize, mirrored: usize) -> Rule {
-    let at = i % (rules.last_rule % 8 + 1) % 8;
-    let rule = rules.packed[at];
-    let left = Chain {
-        links: rule >> 8,
-        size: (rule >> 4) as usize % 16,
-    };
-    if mirrored == 0 {
-        return Rule {
-            right: rule % 16,
-            left: left,
-        };
+// The rule with both sides read backwards and each role inverted.
+fn mirror(rule: u64) -> u64 {
+    let mut turned = 0;
+    let mut links = rule >> 8;
+    let mut rest = rule >> 4 & 15;
+    while 0 < rest {
+        rest -= 1;
+        turned = turned << 4 | links & 15 ^ 1;
+        links = links >> 4;
     }
-    let turned = inverse(left);
-    Rule {
-        right: rule % 16 ^ 1,
-        left: turned,
-    }
+    turned << 8 | rule & 255 ^ 1
 }

@@ -1,171 +1,129 @@
 // Questions about a book: every chain in turn, or chains of up to 12 links made from a seed: derived from a role, nearly derived, or random.
 ghost use Prim.Native.Nat.{_≤_};
-use crate::chain::Chain;
-use crate::chain::link;
-use crate::chain::one;
+use crate::chain::below;
 use crate::chain::push;
 use crate::chain::splice;
-use crate::counts::EVERY;
-use crate::counts::NEARLY;
-use crate::counts::RANDOM;
+use crate::draw::Drawn;
 use crate::draw::draw;
+use crate::draw::draw_links;
 use crate::draw::draw_small;
-use crate::rules::Rule;
-use crate::rules::Rules;
-use crate::rules::nth;
-
-pub(crate) struct Sampled {
-    pub(crate) seed: u64,
-    pub(crate) chain: Chain,
-}
 
 // A question: its kind, its role and its chain; and the next seed.
 pub(crate) struct Question {
-    pub(crate) kind: usize,
+    pub(crate) kind: u64,
     pub(crate) role: u64,
-    pub(crate) chain: Chain,
+    pub(crate) chain: u64,
     pub(crate) seed: u64,
 }
 
-// Question i about a book: about each role, of every chain in turn; or from the seed, about the right role of each rule in turn or about its
-// inverse, twenty of each kind.
-pub(crate) fn nth_question(every: bool, i: usize, seed: u64, rules: Rules) -> Question {
-    let roles = rules.last_name % 64 * 2 + 2;
-    if every {
-        let chain = nth_chain(i / roles, roles);
-        return Question {
-            kind: EVERY,
-            role: (i % roles) as u64,
-            chain: chain,
-            seed: seed,
-        };
+// Question i of every chain in turn about each of some roles.
+pub(crate) fn nth_question(i: u64, seed: u64, roles: u64) -> Question
+    requires { ⌜ 1 ≤ roles ⌝ }
+{
+    let mut chain = 0;
+    let mut rest = i / roles % 65536 + 1;
+    while 0 < rest {
+        rest -= 1;
+        chain = push(chain, rest % roles);
+        rest = rest / roles;
     }
+    Question {
+        kind: 3,
+        role: i % roles,
+        chain: chain,
+        seed: seed,
+    }
+}
+
+// Question i from a seed, about the right role of each rule in turn or about its inverse, twenty of each kind.
+pub(crate) fn draw_question(i: u64, seed: u64, rules: [u64; 192], roles: u64) -> Question {
     let mirrored = draw(seed, 2);
-    let rule = nth(rules, i, mirrored.value);
-    let made = sample(i / 20, mirrored.seed, rules, rule.right, roles);
-    let chain = made.chain;
+    let role = nth(rules, i, mirrored.value) % 16;
+    let made = draw_chain(i / 20, mirrored.seed, rules, role, roles);
     Question {
         kind: i / 20,
-        role: rule.right,
-        chain: chain,
+        role: role,
+        chain: made.value,
         seed: made.seed,
     }
 }
 
+// Rule i, counted round and round, or its mirror where `mirrored` is 1.
+fn nth(rules: [u64; 192], i: u64, mirrored: u64) -> u64 {
+    rules[(i % 96 * 2 + mirrored % 2) as usize]
+}
+
 // A chain of a kind, for a role of a book that has `roles` roles.
-fn sample(kind: usize, seed: u64, rules: Rules, role: u64, roles: usize) -> Sampled {
-    if kind == RANDOM {
+fn draw_chain(kind: u64, seed: u64, rules: [u64; 192], role: u64, roles: u64) -> Drawn {
+    if kind == 2 {
         let size = draw_small(seed, 12);
-        return draw_links(size.seed, size.value, 0, roles);
+        return draw_links(size.seed, size.value % 16 + 1, 0, roles);
     }
     let made = derived(seed, rules, role);
-    if kind == NEARLY {
-        return nearly(made, roles);
+    if kind == 1 {
+        return nearly(made.seed, made.value, roles);
     }
     made
 }
 
-// Chain n of the chains over some roles, shorter ones first and none over 8 links.
-fn nth_chain(n: usize, roles: usize) -> Chain
-    requires { ⌜ 1 ≤ roles ⌝ }
-{
-    let mut chain = Chain { links: 0, size: 0 };
-    let mut rest = n;
-    let mut turns = 8usize;
-    while 0 < turns {
-        turns -= 1;
-        chain = push(chain, (rest % roles) as u64);
-        if rest < roles {
-            return chain;
-        }
-        rest = (rest - roles) / roles;
-    }
-    chain
-}
-
-// Links drawn among the `roles` roles from `low` on.
-pub(crate) fn draw_links(seed: u64, size: usize, low: usize, roles: usize) -> Sampled {
-    let mut chain = Chain { links: 0, size: 0 };
-    let mut next = seed;
-    let mut i = 0;
-    while i < size {
-        let role = draw(next, roles);
-        next = role.seed;
-        chain = push(chain, (low % 16 + role.value % 16) as u64);
-        i += 1;
-    }
-    Sampled {
-        seed: next,
-        chain: chain,
-    }
-}
-
 // A chain that is derived from a role by up to 96 replacements, by one rule after another.
-fn derived(seed: u64, rules: Rules, role: u64) -> Sampled {
+fn derived(seed: u64, rules: [u64; 192], role: u64) -> Drawn {
     let turns = draw(seed, 96);
     let mut next = turns.seed;
-    let mut chain = one(role);
+    let mut chain = role << 4 | 1;
     let mut i = 0;
-    while i <= turns.value {
+    while i <= turns.value % 96 {
         let mirrored = draw(next, 2);
-        let place = draw(mirrored.seed, chain.size);
+        let place = draw(mirrored.seed, chain % 16);
         next = place.seed;
         chain = replaced(chain, place.value, nth(rules, i, mirrored.value));
         i += 1;
     }
-    Sampled {
+    Drawn {
         seed: next,
-        chain: chain,
+        value: chain,
     }
 }
 
 // The chain with the left side of a rule in place of link i, where that is its right role and there is room.
-fn replaced(chain: Chain, i: usize, rule: Rule) -> Chain {
-    if link(chain, i) != rule.right {
+fn replaced(chain: u64, i: u64, rule: u64) -> u64 {
+    if (chain >> below(i)) % 16 != rule % 16 {
         return chain;
     }
-    if 13 < chain.size % 16 + rule.left.size % 16 {
+    let left = rule >> 4;
+    if 13 < chain % 16 + left % 16 {
         return chain;
     }
-    splice(chain, i, 1, rule.left)
+    splice(chain, i, left)
 }
 
 // A link of a chain is changed or dropped, or two neighbours are swapped.
-fn nearly(made: Sampled, roles: usize) -> Sampled {
-    let chain = made.chain;
-    let place = draw(made.seed, chain.size);
+fn nearly(seed: u64, chain: u64, roles: u64) -> Drawn {
+    let place = draw(seed, chain % 16);
     let edit = draw(place.seed, 3);
-    if chain.size < 2 {
-        return changed(edit.seed, chain, place.value, roles);
+    if (chain % 16 < 2) | (edit.value == 2) {
+        let role = draw(edit.seed, roles);
+        return Drawn {
+            seed: role.seed,
+            value: splice(chain, place.value, role.value << 4 | 1),
+        };
     }
-    if edit.value == 2 {
-        return changed(edit.seed, chain, place.value, roles);
-    }
-    let mut edited = swapped(chain, place.value);
     if edit.value == 0 {
-        let none = Chain { links: 0, size: 0 };
-        edited = splice(chain, place.value, 1, none);
+        return Drawn {
+            seed: edit.seed,
+            value: splice(chain, place.value, 0),
+        };
     }
-    Sampled {
+    Drawn {
         seed: edit.seed,
-        chain: edited,
-    }
-}
-
-fn changed(seed: u64, chain: Chain, i: usize, roles: usize) -> Sampled {
-    let role = draw(seed, roles);
-    Sampled {
-        seed: role.seed,
-        chain: splice(chain, i, 1, one(role.value as u64)),
+        value: swapped(chain, place.value),
     }
 }
 
 // Link i is swapped with the one before it; the first with the second.
-fn swapped(chain: Chain, i: usize) -> Chain {
-    let mut first = 0;
-    if 0 < i {
-        first = i - 1;
-    }
-    let second = link(chain, first % 16 + 1);
-    splice(chain, first, 2, push(one(second), link(chain, first)))
+fn swapped(chain: u64, i: u64) -> u64 {
+    let low = below(std::num::wrapping_sub_u64(i, (0 < i) as u64));
+    let links = chain >> low;
+    let changed = (links ^ links >> 4) % 16;
+    chain ^ changed * 17 << low
 }

@@ -42,9 +42,7 @@ pub(crate) fn read_list(s: &[u8], at: usize) -> List {
     let mut bytes = [0u8; 1025];
     let mut i = 0;
     while i < size {
-        if last.more {
-            last = read_number(s, last.next);
-        }
+        last = read_more(s, last);
         numbers[i % 15363] = (last.value % 65536) as u16;
         bytes[i % 1025] = (last.value % 256) as u8;
         i += 1;
@@ -55,6 +53,14 @@ pub(crate) fn read_list(s: &[u8], at: usize) -> List {
         size: size,
         next: last.next,
     }
+}
+
+// The number after one of a list; that one again where none follows.
+fn read_more(s: &[u8], last: Number) -> Number {
+    if last.more {
+        return read_number(s, last.next);
+    }
+    last
 }
 
 // The first n numbers of a table; none where there are fewer.

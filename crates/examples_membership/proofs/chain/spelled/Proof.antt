@@ -5,10 +5,10 @@ use Rattle.examples_membership.proofs.chain.spelled.Statement.{statemen
 use Rattle.examples_membership.proofs.chain.spelled.Tie as tie
 
 abbrev Inv-loop : tie.InvT-loop
-Inv-loop chain bytes₀ i₀ bytes i = Unit
+Inv-loop chain bytes₀ links₀ i₀ bytes links i = Unit
 
 abbrev μ-loop : tie.MeasureT-loop
-μ-loop chain bytes₀ i₀ bytes i = 16 - i
+μ-loop chain bytes₀ links₀ i₀ bytes links i = 16 - i
 
 pub spelled-spec : {M : Type 1} → statement M
 spelled-spec =
@@ -17,7 +17,6 @@ spelled-spec =
     Inv-loop
     μ-loop
     (λ c. search needs)
-    (λ c κs. search needs)
     (λ c. search needs)
     (λ c. search needs)
     (λ c. search needs)

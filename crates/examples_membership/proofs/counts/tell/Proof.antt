@@ -1,7 +1,7 @@
 -- `tell` is safe and ends.
 use Prim.Native.Nat.{_-_}
-use borrow.Author.Needs.{needs}
 use lib.ListN.{length}
+use borrow.Author.Needs.{needs}
 use Rattle.examples_membership.proofs.counts.tell.Statement.{statement}
 use Rattle.examples_membership.proofs.counts.tell.Tie as tie
 

@@ -5,10 +5,10 @@ use Rattle.examples_membership.proofs.make.put_rule.Statement.{statemen
 use Rattle.examples_membership.proofs.make.put_rule.Tie as tie
 
 abbrev Inv-loop : tie.InvT-loop
-Inv-loop at rule book₀ size i₀ book i = Unit
+Inv-loop at rule book₀ end i₀ book i = Unit
 
 abbrev μ-loop : tie.MeasureT-loop
-μ-loop at rule book₀ size i₀ book i = size - i
+μ-loop at rule book₀ end i₀ book i = end - i
 
 pub put-rule-spec : {M : Type 1} → statement M
 put-rule-spec =
@@ -17,7 +17,9 @@ put-rule-spec =
     Inv-loop
     μ-loop
     (λ c. search needs)
-    (λ c κs. search needs)
+    (λ c. search needs)
+    (λ c. search needs)
+    (λ c. search needs)
     (λ c. search needs)
     (λ c. search needs)
     (λ c. search needs)

@@ -5,10 +5,10 @@ use Rattle.examples_membership.proofs.rules.rule_at.Statement.{statemen
 use Rattle.examples_membership.proofs.rules.rule_at.Tie as tie
 
 abbrev Inv-loop : tie.InvT-loop
-Inv-loop book at start size rule₀ i₀ rule i = Unit
+Inv-loop book at start end rule₀ i₀ rule i = Unit
 
 abbrev μ-loop : tie.MeasureT-loop
-μ-loop book at start size rule₀ i₀ rule i = size - i
+μ-loop book at start end rule₀ i₀ rule i = end - i
 
 pub rule-at-spec : {M : Type 1} → statement M
 rule-at-spec =
@@ -24,7 +24,8 @@ rule-at-spec =
     (λ c. search needs)
     (λ c κs. search needs)
     (λ c. search needs)
-    (λ c κs. search needs)
+    (λ c. search needs)
+    (λ c. search needs)
     (λ c. search needs)
     (λ c. search needs)
     (λ c. search needs)

@@ -5,10 +5,10 @@ use Rattle.examples_membership.proofs.rules.rules_of.Statement.{stateme
 use Rattle.examples_membership.proofs.rules.rules_of.Tie as tie
 
 abbrev Inv-loop : tie.InvT-loop
-Inv-loop book packed₀ count at₀ i₀ packed at i = Unit
+Inv-loop book rules₀ at₀ i₀ rules at i = Unit
 
 abbrev μ-loop : tie.MeasureT-loop
-μ-loop book packed₀ count at₀ i₀ packed at i = count - i
+μ-loop book rules₀ at₀ i₀ rules at i = 96 - i
 
 pub rules-of-spec : {M : Type 1} → statement M
 rules-of-spec =
@@ -16,12 +16,12 @@ rules-of-spec =
     (tie.spec
     Inv-loop
     μ-loop
-    (λ c κs. search needs)
-    (λ c. search needs)
     (λ c. search needs)
     (λ c κs. search needs)
     (λ c. search needs)
     (λ c. search needs)
+    (λ c. search needs)
+    (λ c κs. search needs)
     (λ c. search needs)
     (λ c. search needs)
     (λ c. search needs)

