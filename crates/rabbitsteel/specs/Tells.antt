@@ -12,6 +12,7 @@ use Rattle.book_causes.specs.Accepted.{states-of, count-of, heads-of, moves-of,
 use Rattle.query_causes.specs.Query.{Answered}
 use Rattle.query_correctness.specs.Reply.{Replied, posed}
 use Rattle.book_header.specs.declared.Header.{Header}
+use Rattle.table_builder.specs.declared.Counts.{Counts}
 
 -- two numbers told
 pub record Pair : Type 0 where
@@ -44,6 +45,9 @@ abbrev pub book-counts : Book → Pair
 book-counts b = record { one = b .names; two = length (b .rules) }
 
 -- how many states and transitions
+abbrev pub built-counts : Counts → Pair
+built-counts k = record { one = k .states; two = k .transitions }
+
 abbrev pub table-counts : Book → Pair
 table-counts b = record { one = states-of b; two = count-of b }
 

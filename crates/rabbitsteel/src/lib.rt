@@ -5,20 +5,34 @@ ghost use Rattle.book_causes.specs.Ordered.{ordered};
 ghost use Rattle.book_decoder.specs.Verdict.{says};
 ghost use Rattle.book_format.specs.Format.{read};
 ghost use Rattle.base.specs.Result.{map-result};
+ghost use Rattle.base.specs.Result.Result.{refused};
 ghost use Rattle.refusals.specs.Refusal.{cause-of, value-of};
-ghost use Rattle.rabbitsteel.specs.Tells.{Tells, TellsBuild, TellsAnswer, TellsDerived, book-counts, header-counts};
+ghost use Rattle.query_answerer.specs.Answer.{says as answer-says};
+ghost use Rattle.query_deriver.specs.Replies.{says as reply-says};
+ghost use Rattle.table_builder.specs.Builds.{says as outcome-says};
+ghost use Rattle.rabbitsteel.specs.Tells.{Tells, TellsBuild, TellsAnswer, TellsDerived, book-counts, header-counts, built-counts, bit};
 use book_decoder::Verdict;
 use query_answerer::Answer;
 use query_deriver::Reply;
 use refusals::Refusal;
 use table_builder::Outcome;
 
+// What a call tells: the number of the cause, or 0, and two numbers.
+struct Told {
+    cause: u64,
+    first: u64,
+    second: u64,
+}
+
 // Causes 1 to 7. Passed: how many names and how many rules the book has. Refused: the value beside the cause, and 0.
 #[no_mangle]
 pub extern "C" fn rabbitsteel_read(book: &[u8], first: &mut u64, second: &mut u64) -> u64
     ensures { λ r. ⌜ Tells (map-result book-counts (read (now (book .entry)))) r (now (first .exit)) (now (second .exit)) ⌝ }
 {
-    tell(book_reader::read(book), first, second)
+    let told = tell_verdict(book_reader::read(book));
+    *first = told.first;
+    *second = told.second;
+    told.cause
 }
 
 // Causes 1 to 8. Passed: how many names and how many rules the book has. Refused: the value beside the cause, and 0.
@@ -28,33 +42,30 @@ pub extern "C" fn rabbitsteel_order(book: &[u8], first: &mut u64, second: &mut u
 {
     let ordering = order_checker::order(book);
     let verdict = ordering.verdict;
-    tell(verdict, first, second)
+    let told = tell_verdict(verdict);
+    *first = told.first;
+    *second = told.second;
+    told.cause
 }
 
-// Stores what a verdict tells; returns the number of its cause, or 0.
-fn tell(verdict: Verdict, first: &mut u64, second: &mut u64) -> u64
-    ensures { λ r. ⌜ Tells (map-result header-counts (says verdict)) r (now (first .exit)) (now (second .exit)) ⌝ }
+fn tell_verdict(verdict: Verdict) -> Told
+    ensures { λ r. ⌜ Tells (map-result header-counts (says verdict)) (r .cause) (r .first) (r .second) ⌝ }
 {
     match verdict {
-        Verdict::WellFormed(header) => {
-            *first = header.names as u64;
-            *second = header.rules as u64;
-            0
-        }
-        Verdict::Refused(refusal) => {
-            *second = 0;
-            refuse(refusal, first)
-        }
+        Verdict::WellFormed(header) => Told {
+            cause: 0,
+            first: header.names as u64,
+            second: header.rules as u64,
+        },
+        Verdict::Refused(refusal) => tell_refusal(refusal),
     }
 }
 
-// Stores the value beside the cause of a refusal; returns the number of the cause.
-fn refuse(refusal: Refusal, value: &mut u64) -> u64
-    ensures cause { λ r. ⌜ r ≡ cause-of refusal ⌝ }
-    ensures value { λ r. ⌜ now (value .exit) ≡ value-of refusal ⌝ }
+// The cause of a refusal, and the value beside it.
+fn tell_refusal(refusal: Refusal) -> Told
+    ensures { λ r. ⌜ Tells (refused (cause-of refusal) (value-of refusal)) (r .cause) (r .first) (r .second) ⌝ }
 {
-    *value = refusals::value(refusal) as u64;
-    refusals::cause(refusal) as u64
+    tell_pair(refusals::cause(refusal), refusals::value(refusal) as u64)
 }
 
 // Causes 1 to 11, and the tables. Built: how many states and how many transitions they have. Refused: the value beside the cause, and 0; heads
@@ -70,17 +81,22 @@ pub extern "C" fn rabbitsteel_build(
     ensures { λ r. ⌜ TellsBuild (now (book .entry)) (now (heads .entry)) (now (moves .entry)) (now (heads .exit)) (now (moves .exit)) r
         (now (first .exit)) (now (second .exit)) ⌝ }
 {
-    let outcome = table_builder::build(book, heads, moves);
+    let told = tell_outcome(table_builder::build(book, heads, moves));
+    *first = told.first;
+    *second = told.second;
+    told.cause
+}
+
+fn tell_outcome(outcome: Outcome) -> Told
+    ensures { λ r. ⌜ Tells (map-result built-counts (outcome-says outcome)) (r .cause) (r .first) (r .second) ⌝ }
+{
     match outcome {
-        Outcome::Built(counts) => {
-            *first = counts.states as u64;
-            *second = counts.transitions as u64;
-            0
-        }
-        Outcome::Refused(refusal) => {
-            *second = 0;
-            refuse(refusal, first)
-        }
+        Outcome::Built(counts) => Told {
+            cause: 0,
+            first: counts.states as u64,
+            second: counts.transitions as u64,
+        },
+        Outcome::Refused(refusal) => tell_refusal(refusal),
     }
 }
 
@@ -95,20 +111,28 @@ pub extern "C" fn rabbitsteel_ask(
 ) -> u64
     ensures { λ r. ⌜ TellsAnswer (now (heads .entry)) (now (moves .entry)) role (now (chain .entry)) r (now (answer .exit)) ⌝ }
 {
-    let said = query_answerer::ask(heads, moves, role, chain);
-    match said {
-        Answer::Yes => {
-            *answer = 1;
-            0
-        }
-        Answer::No => {
-            *answer = 0;
-            0
-        }
-        Answer::Refused(refusal) => {
-            *answer = 0;
-            query_checker::cause(refusal) as u64
-        }
+    let told = tell_answer(query_answerer::ask(heads, moves, role, chain));
+    *answer = told.first;
+    told.cause
+}
+
+fn tell_answer(answer: Answer) -> Told
+    ensures { λ r. ⌜ Tells (map-result bit (answer-says answer)) (r .cause) (r .first) (r .second) ⌝ }
+{
+    match answer {
+        Answer::Yes => tell_pair(0, 1),
+        Answer::No => tell_pair(0, 0),
+        Answer::Refused(refusal) => tell_pair(query_checker::cause(refusal), 0),
+    }
+}
+
+fn tell_pair(cause: usize, first: u64) -> Told
+    ensures { λ r. ⌜ r ≡ record { cause = cause; first = first; second = 0 } ⌝ }
+{
+    Told {
+        cause: cause as u64,
+        first: first,
+        second: 0,
     }
 }
 
@@ -126,20 +150,18 @@ pub extern "C" fn rabbitsteel_derived(
     ensures { λ r. ⌜ TellsDerived (now (book .entry)) (now (heads .entry)) (now (moves .entry)) role (now (chain .entry)) (now (heads .exit))
         (now (moves .exit)) r (now (answer .exit)) ⌝ }
 {
-    let reply = query_deriver::derived(book, heads, moves, role, chain);
+    let told = tell_reply(query_deriver::derived(book, heads, moves, role, chain));
+    *answer = told.first;
+    told.cause
+}
+
+fn tell_reply(reply: Reply) -> Told
+    ensures { λ r. ⌜ Tells (map-result bit (reply-says reply)) (r .cause) (r .first) (r .second) ⌝ }
+{
     match reply {
-        Reply::Yes => {
-            *answer = 1;
-            0
-        }
-        Reply::No => {
-            *answer = 0;
-            0
-        }
-        Reply::Book(refusal) => refuse(refusal, answer),
-        Reply::Question(refusal) => {
-            *answer = 0;
-            query_checker::cause(refusal) as u64
-        }
+        Reply::Yes => tell_pair(0, 1),
+        Reply::No => tell_pair(0, 0),
+        Reply::Book(refusal) => tell_refusal(refusal),
+        Reply::Question(refusal) => tell_pair(query_checker::cause(refusal), 0),
     }
 }

@@ -1,14 +1,14 @@
 -- `rabbitsteel_order` meets its contract: what is told of the verdict is told of the judgement that it equals.
 use borrow.Author.Needs.{needs}
-use Rattle.rabbitsteel.specs.TellsLaws.{told-of}
-use Rattle.rabbitsteel.specs.Tells.{header-counts}
-use Rattle.book_causes.specs.Ordered.{ordered}
 use Rattle.book_decoder.specs.Verdict.{header-of}
+use Rattle.book_causes.specs.Ordered.{ordered}
+use Rattle.rabbitsteel.specs.Tells.{header-counts}
+use Rattle.rabbitsteel.specs.TellsLaws.{told-of}
 use Rattle.rabbitsteel.proofs.rabbitsteel_order.Statement.{statement}
 use Rattle.rabbitsteel.proofs.rabbitsteel_order.Tie as tie
 
 returns : tie.Need-returns
-returns c = told-of header-of header-counts (ordered (c .before .before .before .before .before .args .book .now)) _ _ _ _ (c .before .before .before .order .ensures .verdict) (c .tell .ensures)
+returns c = told-of header-of header-counts (ordered (c .before .before .before .args .book .now)) (c .before .order .ensures .verdict) (c .tell-verdict .ensures)
 
 pub rabbitsteel-order-spec : {M : Type 1} → statement M
 rabbitsteel-order-spec = tie.close (tie.spec (λ c κs. search needs) (λ c κs. search needs) returns)
