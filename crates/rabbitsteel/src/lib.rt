@@ -1,6 +1,5 @@
 // The calls for programs in C and Rust, as a static library. Each returns the number of the cause that refuses its input, or 0, and stores in the
 // numbers lent to it what it tells: counts or an answer, or what document 01 gives beside the cause.
-ghost use mathlib.Core.Path.{_≡_};
 ghost use Rattle.book_causes.specs.Ordered.{ordered};
 ghost use Rattle.book_decoder.specs.Verdict.{says};
 ghost use Rattle.book_format.specs.Format.{read};
@@ -65,7 +64,11 @@ fn tell_verdict(verdict: Verdict) -> Told
 fn tell_refusal(refusal: Refusal) -> Told
     ensures { λ r. ⌜ Tells (refused (cause-of refusal) (value-of refusal)) (r .cause) (r .first) (r .second) ⌝ }
 {
-    tell_pair(refusals::cause(refusal), refusals::value(refusal) as u64)
+    Told {
+        cause: refusals::cause(refusal) as u64,
+        first: refusals::value(refusal) as u64,
+        second: 0,
+    }
 }
 
 // Causes 1 to 11, and the tables. Built: how many states and how many transitions they have. Refused: the value beside the cause, and 0; heads
@@ -120,19 +123,21 @@ fn tell_answer(answer: Answer) -> Told
     ensures { λ r. ⌜ Tells (map-result bit (answer-says answer)) (r .cause) (r .first) (r .second) ⌝ }
 {
     match answer {
-        Answer::Yes => tell_pair(0, 1),
-        Answer::No => tell_pair(0, 0),
-        Answer::Refused(refusal) => tell_pair(query_checker::cause(refusal), 0),
-    }
-}
-
-fn tell_pair(cause: usize, first: u64) -> Told
-    ensures { λ r. ⌜ r ≡ record { cause = cause; first = first; second = 0 } ⌝ }
-{
-    Told {
-        cause: cause as u64,
-        first: first,
-        second: 0,
+        Answer::Yes => Told {
+            cause: 0,
+            first: 1,
+            second: 0,
+        },
+        Answer::No => Told {
+            cause: 0,
+            first: 0,
+            second: 0,
+        },
+        Answer::Refused(refusal) => Told {
+            cause: query_checker::cause(refusal) as u64,
+            first: 0,
+            second: 0,
+        },
     }
 }
 
@@ -159,9 +164,21 @@ fn tell_reply(reply: Reply) -> Told
     ensures { λ r. ⌜ Tells (map-result bit (reply-says reply)) (r .cause) (r .first) (r .second) ⌝ }
 {
     match reply {
-        Reply::Yes => tell_pair(0, 1),
-        Reply::No => tell_pair(0, 0),
+        Reply::Yes => Told {
+            cause: 0,
+            first: 1,
+            second: 0,
+        },
+        Reply::No => Told {
+            cause: 0,
+            first: 0,
+            second: 0,
+        },
         Reply::Book(refusal) => tell_refusal(refusal),
-        Reply::Question(refusal) => tell_pair(query_checker::cause(refusal), 0),
+        Reply::Question(refusal) => Told {
+            cause: query_checker::cause(refusal) as u64,
+            first: 0,
+            second: 0,
+        },
     }
 }
