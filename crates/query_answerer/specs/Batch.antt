@@ -3,15 +3,13 @@ use mathlib.Core.Bool.{Bool, true, false}
 use mathlib.Core.List.{List, [], _∷_, _++_}
 use mathlib.Core.Logic.{_⊎_}
 use mathlib.Core.Path.{_≡_}
-use Prim.Native.Nat.{ℕ, zero, suc, _+_, _≤_}
+use Prim.Native.Nat.{ℕ, zero, suc, _+_, _-_, _≤_}
 use lib.ListN.{length, getD, take, drop}
 use Rattle.base.specs.Result.{Result}
 use Rattle.base.specs.Result.Result.{refused, ok}
 use Rattle.query_causes.specs.Query.{tables-fit, Answered}
 use Rattle.query_causes.specs.Input.{links-of, Whole, Broken}
-use Rattle.refusals.specs.Check.{check}
-use Rattle.refusals.specs.declared.check.Check.{Check}
-use Rattle.refusals.specs.declared.check.Check.the-variants.{Passed}
+use Rattle.query_simulation.specs.States.{Unused}
 use Rattle.query_simulation.specs.Transitions.{transition-count}
 use Rattle.query_simulation.specs.TransitionIndex.{Indexed}
 use Rattle.query_answerer.specs.declared.batch.Batch.{Batch}
@@ -45,12 +43,18 @@ module _ (heads moves : List ℕ) where
     pub completes : (n : ℕ) (bytes : List ℕ) → Batched (drop read q) n bytes → Batched q (read + n) (take answered answers′ ++ bytes)
     pub kept : drop answered answers′ ≡ drop answered answers
 
-  -- tables that are known to fit, and are indexed, or not to fit
-  pub record Ready (fit : Check) (index : List ℕ) : Type 0 where
-    pub judged : fit ≡ check (tables-fit heads moves)
-    pub indexed : fit ≡ Passed → Indexed 2048 moves index (transition-count moves)
+  -- tables with so many names, which fit and are indexed, or 0 where they do not fit; sets that are empty under a stamp
+  pub record Ready (names stamp : ℕ) (space : List ℕ) : Type 0 where
+    pub unused : Unused 2048 stamp space
+    pub wrong : names ≡ 0 → tables-fit heads moves ≡ false
+    pub fit : (names ≡ 0 → ⊥) → (tables-fit heads moves ≡ true) × (names ≡ length heads) × Indexed 2048 moves space (transition-count moves)
+
+  -- the byte answers the question on so many bytes of q; what stands in the space is older than the stamp
+  pub record Asked (names : ℕ) (q : List ℕ) (read size byte stamp : ℕ) (space : List ℕ) : Type 0 where
+    pub answered : Answered heads moves (getD q read 0) (take (read + size - (read + 3)) (drop (read + 3) q)) (told byte)
+    pub ready : Ready names stamp space
 
 -- how many bytes the whole question at the front of s takes, or 0 for none
-pub record Sized (s : List ℕ) (n : ℕ) : Type 0 where
+pub record WholeSize (s : List ℕ) (n : ℕ) : Type 0 where
   pub some : (n ≡ 0 → ⊥) → (n ≡ 3 + links-of s) × Whole s
   pub none : n ≡ 0 → Broken s

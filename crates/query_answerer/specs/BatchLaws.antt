@@ -1,4 +1,5 @@
 -- How answering one question after another gives what a batch promises.
+use mathlib.Core.Bool.{true, false}
 use mathlib.Core.List.{List, [], _∷_, append-assoc, append-nil}
 use mathlib.Core.Logic.{_⊎_, inl, inr}
 use mathlib.Core.Path.{_≡_, refl, sym, ap, ap₂, _∙_}
@@ -9,14 +10,23 @@ use lib.ListN.{length, getD, set, take, drop, length-set, length-drop}
 use lib.Seq.{getD-drop, drop-drop, take-suc-set, drop-set-lt}
 use Rattle.words.specs.Word.{word}
 use Rattle.words.specs.WordLaws.{word-drop}
-use Rattle.base.specs.Result.Result.{refused}
-use Rattle.query_causes.specs.Query.{query, Answered}
-use Rattle.base.specs.Decision.Decision.{refuses}
+use Rattle.base.specs.Result.Result.{refused, ok}
+use Rattle.roles.specs.Role.{name}
+use Rattle.query_causes.specs.Query.{tables-fit, question, query, Accepts, Answered}
+use Rattle.query_causes.specs.Query.Answered.{refuses, yes, no}
 use Rattle.query_causes.specs.Input.{links-of, Broken}
 use Rattle.query_checker.specs.Question.{cause-of}
 use Rattle.query_checker.specs.declared.refusal.QueryRefusal.{QueryRefusal}
 use Rattle.query_checker.specs.declared.refusal.QueryRefusal.the-variants.{Tables, Chain, Role}
-use Rattle.query_answerer.specs.Batch.{told, Batched, Batches, Going, Sized}
+use Rattle.query_simulation.specs.QueryLaws.{query-tables, query-question, named-role, askable}
+use Rattle.query_simulation.specs.Reading.{Readable}
+use Rattle.query_simulation.specs.States.{Unused, Renewed}
+use Rattle.query_simulation.specs.StatesLaws.{unused-later}
+use Rattle.query_simulation.specs.TablesLaws.{tables}
+use Rattle.query_simulation.specs.Transitions.{transition-count}
+use Rattle.query_simulation.specs.TransitionIndex.{Prepared}
+use Rattle.query_simulation.specs.TransitionIndexLaws.{indexed-behind}
+use Rattle.query_answerer.specs.Batch.{told, Batched, Batches, Going, Ready, Asked, WholeSize}
 use Rattle.query_answerer.specs.Batch.Batched.{none, more}
 
 -- what each test of the search for a whole question settles
@@ -27,15 +37,15 @@ module _ (q : List ℕ) (at : ℕ) (h : at ≤ length q) where
   same-links : word q (at + 1) ≡ links-of (drop at q)
   same-links = sym (word-drop at q 1)
 
-  pub sized-short : length q - at < 3 → Sized (drop at q) 0
+  pub sized-short : length q - at < 3 → WholeSize (drop at q) 0
   sized-short l =
       let short : length (drop at q) < 3 = omega (arith, left, l) in
       record { some = λ z. absurd (z refl); none = λ e. omega arith }
 
-  pub sized-part : 3 ≤ length q - at → length q - at - 3 < word q (at + 1) → Sized (drop at q) 0
+  pub sized-part : 3 ≤ length q - at → length q - at - 3 < word q (at + 1) → WholeSize (drop at q) 0
   sized-part m l = record { some = λ z. absurd (z refl); none = λ e. omega (arith, left, m, l, same-links) }
 
-  pub sized-whole : 3 ≤ length q - at → word q (at + 1) ≤ length q - at - 3 → Sized (drop at q) (3 + word q (at + 1))
+  pub sized-whole : 3 ≤ length q - at → word q (at + 1) ≤ length q - at - 3 → WholeSize (drop at q) (3 + word q (at + 1))
   sized-whole m l =
       record {
         some = λ z. (ap (λ (n : ℕ). 3 + n) same-links, omega (arith, left, m, l, same-links));
@@ -43,7 +53,7 @@ module _ (q : List ℕ) (at : ℕ) (h : at ≤ length q) where
       }
 
 -- a whole question at a place ends within the input
-module _ (q : List ℕ) (read size : ℕ) (h : read ≤ length q) (found : Sized (drop read q) size) (some : size ≡ 0 → ⊥) where
+module _ (q : List ℕ) (read size : ℕ) (h : read ≤ length q) (found : WholeSize (drop read q) size) (some : size ≡ 0 → ⊥) where
   pub whole-fits : (3 ≤ size) × (read + size ≤ length q)
   whole-fits =
       let f = found .some some in
@@ -112,22 +122,101 @@ module _ (heads moves q answers : List ℕ) where
     pub going-full : length answers′ ≤ answered → Batches heads moves q answers answers′ (record { answered = answered; read = read })
     going-full l = going-ends (inl (omega (arith, g .same, g .fits, l)))
 
-    pub going-broken : (size : ℕ) → Sized (drop read q) size → size ≡ 0 → Batches heads moves q answers answers′ (record { answered = answered; read = read })
+    pub going-broken : (size : ℕ) → WholeSize (drop read q) size → size ≡ 0 → Batches heads moves q answers answers′ (record { answered = answered; read = read })
     going-broken size found e = going-ends (inr (found .none e))
 
--- a refusal is told by the number of its cause
+-- what answering one question gives, each way
 pub small-cause : (x : QueryRefusal) → cause-of x ≤ 14
 small-cause Tables = omega arith
 small-cause Chain = omega arith
 small-cause Role = omega arith
 
-pub refused-told : (heads moves : List ℕ) (r : ℕ) (w : List ℕ) (x : QueryRefusal) → query heads moves r w ≡ refused (cause-of x) 0 → (b : ℕ) → b ≡ cause-of x
+refused-told : (heads moves : List ℕ) (r : ℕ) (w : List ℕ) (x : QueryRefusal) → query heads moves r w ≡ refused (cause-of x) 0 → (b : ℕ) → b ≡ cause-of x
     → Answered heads moves r w (told b)
 refused-told heads moves r w Tables e b d = rw d (refuses 12 0 e)
 refused-told heads moves r w Chain e b d = rw d (refuses 13 0 e)
 refused-told heads moves r w Role e b d = rw d (refuses 14 0 e)
 
-pub few-taken : (n : ℕ) (s : List ℕ) → length (take n s) ≤ n
+few-taken : (n : ℕ) (s : List ℕ) → length (take n s) ≤ n
 few-taken zero s = omega arith
 few-taken (suc n) [] = omega arith
 few-taken (suc n) (x ∷ s) = omega (arith, few-taken n s)
+
+-- tables that fit, and are indexed, or do not fit
+pub ready-fit : (heads moves : List ℕ) {space : List ℕ} → tables-fit heads moves ≡ true → Prepared 2048 1 moves (transition-count moves) space
+    → Ready heads moves (length heads) 1 space
+ready-fit heads moves h p =
+    record {
+      unused = p .unused;
+      wrong = λ e. absurd (let f : ⊥ = omega (arith, tables heads moves h .some-heads) in f);
+      fit = λ some. (h, refl, p .indexed);
+    }
+
+pub ready-wrong : (heads moves : List ℕ) {space : List ℕ} → tables-fit heads moves ≡ false → Unused 2048 1 space → Ready heads moves 0 1 space
+ready-wrong heads moves h u = record { unused = u; wrong = λ e. h; fit = λ some. absurd (some refl) }
+
+module _ {heads moves : List ℕ} {names stamp : ℕ} {space : List ℕ} (ready : Ready heads moves names stamp space) where
+  -- with a newer stamp
+  pub ready-renewed : {space′ : List ℕ} {newer : ℕ} → Renewed 2048 space space′ newer → Ready heads moves names newer space′
+  ready-renewed r =
+      record {
+        unused = r .unused;
+        wrong = ready .wrong;
+        fit = λ some. let f = ready .fit some in (f .0, f .1, indexed-behind (r .behind) (f .2));
+      }
+
+  ready-later : (later : ℕ) → stamp ≤ later → Ready heads moves names later space
+  ready-later later l = record { unused = unused-later later l (ready .unused); wrong = ready .wrong; fit = ready .fit }
+
+  module _ (q : List ℕ) (read size : ℕ) where
+    abbrev role : ℕ
+    role = getD q read 0
+
+    abbrev chain : List ℕ
+    chain = take (read + size - (read + 3)) (drop (read + 3) q)
+
+    pub asked-wrong : names ≡ 0 → Asked heads moves names q read size 12 (stamp + size) space
+    asked-wrong e =
+        record {
+          answered = refused-told heads moves role chain Tables (query-tables heads moves role chain (ready .wrong e)) 12 refl;
+          ready = ready-later (stamp + size) (omega arith);
+        }
+
+    module _ (some : names ≡ 0 → ⊥) where
+      query-is : query heads moves role chain ≡ question names role chain
+      query-is = let f = ready .fit some in rw (f .1) (query-question heads moves role chain (f .0))
+
+      pub asked-refused : (x : QueryRefusal) → question names role chain ≡ refused (cause-of x) 0 → (b : ℕ) → b ≡ cause-of x
+          → Asked heads moves names q read size b (stamp + size) space
+      asked-refused x e b d =
+          record { answered = refused-told heads moves role chain x (query-is ∙ e) b d; ready = ready-later (stamp + size) (omega arith) }
+
+      module _ (fits : question names role chain ≡ ok tt) where
+        pub ready-named : name role < length heads
+        ready-named = named-role heads moves role chain (query-is ∙ fits)
+
+        pub ready-readable : stamp ≤ 64000 → Readable moves 2048 stamp (getD heads (name role) 0) chain space
+        ready-readable early =
+            let a = askable heads moves role chain (query-is ∙ fits) in
+            record {
+              prepared = record { unused = ready .unused; indexed = ready .fit some .2 };
+              letters = a .letters;
+              inside = omega (arith, a .low);
+              early = early;
+            }
+
+        module _ (three : 3 ≤ size) {space′ : List ℕ} (left : Prepared 2048 (stamp + length chain + 1) moves (transition-count moves) space′) where
+          ready-after : Ready heads moves names (stamp + size) space′
+          ready-after =
+              let f = ready .fit some in
+              record {
+                unused = unused-later (stamp + size) (omega (arith, few-taken (read + size - (read + 3)) (drop (read + 3) q))) (left .unused);
+                wrong = ready .wrong;
+                fit = λ more. (f .0, f .1, left .indexed);
+              }
+
+          pub asked-yes : Accepts heads moves role chain → Asked heads moves names q read size 1 (stamp + size) space′
+          asked-yes a = record { answered = yes (query-is ∙ fits) a; ready = ready-after }
+
+          pub asked-no : (Accepts heads moves role chain → ⊥) → Asked heads moves names q read size 0 (stamp + size) space′
+          asked-no a = record { answered = no (query-is ∙ fits) a; ready = ready-after }

@@ -4,13 +4,10 @@ ghost use mathlib.Core.Path.{_≡_};
 ghost use Prim.Native.Nat.{_+_, _≤_};
 ghost use lib.ListN.{length, drop};
 ghost use Rattle.query_causes.specs.Query.{Answered};
-ghost use Rattle.query_checker.specs.Question.{cause-of};
-ghost use Rattle.query_simulation.specs.States.{Unused};
-ghost use Rattle.query_answerer.specs.Batch.{told, Sized, Ready, Batches};
+ghost use Rattle.query_answerer.specs.Batch.{told, WholeSize, Ready, Asked, Batches};
 use crate::index::fill_index;
 use crate::reading::run;
 use crate::states::renew;
-use query_checker::QueryRefusal;
 use query_checker::Question;
 use refusals::Check;
 use role_bytes::name;
@@ -27,39 +24,25 @@ pub struct Batch {
 pub fn ask_all(heads: &[u16], moves: &[u16], input: &[u8], answers: &mut [u8]) -> Batch
     ensures { λ r. ⌜ Batches (now (heads .entry)) (now (moves .entry)) (now (input .entry)) (now (answers .entry)) (now (answers .exit)) r ⌝ }
 {
-    let mut index = [0u16; 9216];
-    let mut states = [0u16; 4096];
-    let mut others = [0u16; 4096];
-    let fit = query_checker::tables_fit(heads, moves);
-    if let Check::Passed = fit {
-        fill_index(moves, 2048, &mut index);
+    let mut space = [0u16; 15360];
+    let mut names = 0;
+    if let Check::Passed = query_checker::tables_fit(heads, moves) {
+        fill_index(moves, 2048, &mut space);
+        names = heads.len() as u8;
     }
-    answer_each(
-        heads,
-        moves,
-        fit,
-        &index,
-        input,
-        answers,
-        &mut states,
-        &mut others,
-    )
+    answer_each(heads, moves, names, input, answers, &mut space)
 }
 
-// Answers whole questions by tables that are known to fit or not to. No stamp is used twice before the sets are cleared.
+// Answers whole questions by tables with so many names, or 0 where they do not fit. No stamp is used twice before the stamps are cleared.
 fn answer_each(
     heads: &[u16],
     moves: &[u16],
-    fit: Check,
-    index: &[u16],
+    names: u8,
     input: &[u8],
     answers: &mut [u8],
-    states: &mut [u16],
-    others: &mut [u16],
+    space: &mut [u16],
 ) -> Batch
-    requires { ⌜ Ready (now heads) (now moves) fit (now index) ⌝ }
-    requires { ⌜ Unused 2048 1 (now states) ⌝ }
-    requires { ⌜ Unused 2048 1 (now others) ⌝ }
+    requires { ⌜ Ready (now heads) (now moves) names 1 (now space) ⌝ }
     ensures { λ r. ⌜ Batches (now (heads .entry)) (now (moves .entry)) (now (input .entry)) (now (answers .entry)) (now (answers .exit)) r ⌝ }
 {
     let mut stamp = 1;
@@ -70,19 +53,8 @@ fn answer_each(
         if size == 0 {
             break;
         }
-        let chain = &input[read + 3..read + size];
-        let newest = renew(states, others, stamp);
-        answers[answered] = answer(
-            heads,
-            moves,
-            fit,
-            index,
-            input[read],
-            chain,
-            newest,
-            states,
-            others,
-        );
+        let newest = renew(space, stamp);
+        answers[answered] = answer(heads, moves, names, input, read, size, newest, space);
         stamp = newest as usize + size;
         read += size;
         answered += 1;
@@ -96,7 +68,7 @@ fn answer_each(
 // How many bytes the whole question at a place of the input takes, or 0 where there is none.
 fn whole(input: &[u8], at: usize) -> usize
     requires { ⌜ at ≤ length (now input) ⌝ }
-    ensures { λ r. ⌜ Sized (drop at (now (input .entry))) r ⌝ }
+    ensures { λ r. ⌜ WholeSize (drop at (now (input .entry))) r ⌝ }
 {
     let left = input.len() - at;
     if left < 3 {
@@ -109,45 +81,35 @@ fn whole(input: &[u8], at: usize) -> usize
     3 + links
 }
 
-// Answers one question with a byte.
+// Answers one question, so many bytes from a place of the input on, with a byte.
 fn answer(
     heads: &[u16],
     moves: &[u16],
-    fit: Check,
-    index: &[u16],
-    role: u8,
-    chain: &[u8],
+    names: u8,
+    input: &[u8],
+    read: usize,
+    size: usize,
     stamp: u16,
-    states: &mut [u16],
-    others: &mut [u16],
+    space: &mut [u16],
 ) -> u8
-    requires { ⌜ Ready (now heads) (now moves) fit (now index) ⌝ }
-    requires { ⌜ stamp ≤ 64000 ⌝ }
-    requires { ⌜ Unused 2048 stamp (now states) ⌝ }
-    requires { ⌜ Unused 2048 stamp (now others) ⌝ }
-    ensures { λ r. ⌜ Answered (now (heads .entry)) (now (moves .entry)) role (now (chain .entry)) (told r) ⌝ }
-    ensures { λ _. ⌜ Unused 2048 (stamp + length (now (chain .entry)) + 1) (now (states .exit)) ⌝ }
-    ensures { λ _. ⌜ Unused 2048 (stamp + length (now (chain .entry)) + 1) (now (others .exit)) ⌝ }
+    requires { ⌜ Ready (now heads) (now moves) names stamp (now space) ⌝ }
+    requires { ⌜ (stamp ≤ 64000) × (3 ≤ size) × (read + size ≤ length (now input)) ⌝ }
+    ensures { λ r. ⌜ Asked (now (heads .entry)) (now (moves .entry)) names (now (input .entry)) read size r (stamp + size) (now (space .exit)) ⌝ }
 {
-    let Check::Passed = fit else {
-        return refusal_byte(QueryRefusal::Tables);
-    };
-    let question = query_checker::check_for(heads.len() as u8, role, chain);
+    if names == 0 {
+        return 12;
+    }
+    let role = input[read];
+    let chain = &input[read + 3..read + size];
+    let question = query_checker::check_for(names, role, chain);
     match question {
-        Question::Refused(refusal) => refusal_byte(refusal),
+        Question::Refused(refusal) => query_checker::cause(refusal) as u8,
         Question::Fits => {
             let head = heads[name(role) as usize] as usize;
-            if run(moves, index, 2048, role, chain, head, stamp, states, others) {
+            if run(moves, 2048, role, chain, head, stamp, space) {
                 return 1;
             }
             0
         }
     }
-}
-
-// The byte that answers a refused question: the number of the cause.
-fn refusal_byte(refusal: QueryRefusal) -> u8
-    ensures { λ r. ⌜ r ≡ cause-of refusal ⌝ }
-{
-    query_checker::cause(refusal) as u8
 }

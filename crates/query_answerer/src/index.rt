@@ -1,66 +1,52 @@
-// An index of transitions by their from state, letters apart from silent ones: lists that run through one array. An entry is one more than a
-// transition's number, or 0 for none: at p the last letter from the state p, at room + p the last silent transition, and at 2 room + k the
-// last one before transition k in its list.
+// An index of transitions by their from state, letters apart from silent ones: lists that run through lent space behind the sets of states. An
+// entry is one more than a transition's number, or 0 for none: at 3 room + 2 p the last letter from the state p, after it the last silent
+// transition, and at 5 room + k the last one before transition k in its list.
 ghost use mathlib.Core.Bool.{true};
 ghost use mathlib.Core.Path.{_≡_};
-ghost use Prim.Native.Nat.{_+_, _*_, _<_, _≤_};
-ghost use Rattle.query_simulation.specs.Transitions.{from-at, to-at, transition-count, Fit};
-ghost use Rattle.query_simulation.specs.TransitionIndex.{Empty, Indexed};
-ghost use Rattle.query_simulation.specs.TransitionIndex.{slot as slot-of};
-
-// Which list has the transitions from a state with a label.
-pub(crate) fn slot(room: usize, from: usize, label: u16) -> usize
-    requires { ⌜ (room ≤ 2048) × (from < room) ⌝ }
-    ensures { λ r. ⌜ r ≡ slot-of room from label ⌝ }
-    ensures { λ r. ⌜ r < 2 * room ⌝ }
-{
-    if label == 128 {
-        return room + from;
-    }
-    from
-}
+ghost use Prim.Native.Nat.{_+_, _<_, _≤_};
+ghost use Rattle.query_simulation.specs.Transitions.{transition-count, Fits, Fit, Small};
+ghost use Rattle.query_simulation.specs.TransitionIndex.{Prepared};
 
 // Enters every transition, in one pass, into an index whose lists are empty.
-pub(crate) fn fill_index(moves: &[u16], room: usize, index: &mut [u16])
+pub(crate) fn fill_index(moves: &[u16], room: usize, space: &mut [u16])
     requires { ⌜ Fit room (now moves) ⌝ }
-    requires { ⌜ Empty room (now moves) (now index) ⌝ }
-    ensures { λ _. ⌜ Indexed room (now (moves .entry)) (now (index .exit)) (transition-count (now (moves .entry))) ⌝ }
+    requires { ⌜ Prepared room 1 (now moves) 0 (now space) ⌝ }
+    ensures { λ _. ⌜ Prepared room 1 (now (moves .entry)) (transition-count (now (moves .entry))) (now (space .exit)) ⌝ }
 {
     let count = moves.len() / 3;
     let mut k = 0;
     while k < count {
-        enter(moves, room, index, k);
+        enter(moves, room, space, k);
         k += 1;
     }
-}
-
-// The same where every state is below the room; whether each is.
-pub(crate) fn fill_within(moves: &[u16], room: usize, index: &mut [u16]) -> bool
-    requires { ⌜ Empty room (now moves) (now index) ⌝ }
-    ensures { λ r. ⌜ (r ≡ true → Indexed room (now (moves .entry)) (now (index .exit)) (transition-count (now (moves .entry)))) ⌝ }
-{
-    let count = moves.len() / 3;
-    let mut k = 0;
-    while k < count {
-        if room <= moves[3 * k] as usize {
-            return false;
-        }
-        if room <= moves[3 * k + 2] as usize {
-            return false;
-        }
-        enter(moves, room, index, k);
-        k += 1;
-    }
-    true
 }
 
 // Enters transition k after those before it.
-fn enter(moves: &[u16], room: usize, index: &mut [u16], k: usize)
-    requires { ⌜ Indexed room (now moves) (now index) k ⌝ }
-    requires { ⌜ (k < transition-count (now moves)) × (from-at (now moves) k < room) × (to-at (now moves) k < room) ⌝ }
-    ensures { λ _. ⌜ Indexed room (now (moves .entry)) (now (index .exit)) (k + 1) ⌝ }
+fn enter(moves: &[u16], room: usize, space: &mut [u16], k: usize)
+    requires { ⌜ Prepared room 1 (now moves) k (now space) ⌝ }
+    requires { ⌜ (k < transition-count (now moves)) × Fits room (now moves) k ⌝ }
+    ensures { λ _. ⌜ Prepared room 1 (now (moves .entry)) (k + 1) (now (space .exit)) ⌝ }
 {
-    let list = slot(room, moves[3 * k] as usize, moves[3 * k + 1]);
-    index[2 * room + k] = index[list];
-    index[list] = (k + 1) as u16;
+    let place = 3 * k;
+    let silent = moves[place + 1] / 128;
+    let list = 3 * room + (2 * moves[place] as usize + silent as usize);
+    space[5 * room + k] = space[list];
+    space[list] = (k + 1) as u16;
+}
+
+// Whether there are at most 192 transitions, and their states and the next one after `head` are below 64.
+pub(crate) fn is_small(moves: &[u16], head: usize) -> bool
+    requires { ⌜ Fit 2048 (now moves) × (head ≤ 2046) ⌝ }
+    ensures { λ r. ⌜ (r ≡ true → Small (now (moves .entry)) head) ⌝ }
+{
+    if 576 < moves.len() {
+        return false;
+    }
+    let mut most = head + 1;
+    let mut i = 0;
+    while i + 2 < moves.len() {
+        most = most | moves[i] as usize | moves[i + 2] as usize;
+        i += 3;
+    }
+    most < 64
 }

@@ -1,84 +1,44 @@
 // Reads a chain link by link with sets of states: only the active states and their transitions are visited.
 ghost use mathlib.Core.Path.{_≡_};
-ghost use Prim.Native.Nat.{_+_, _<_, _≤_};
+ghost use Prim.Native.Nat.{_+_, _*_, _<_};
 ghost use lib.ListN.{length, getD};
 ghost use Rattle.query_causes.specs.Query.{asked};
 ghost use Rattle.base.specs.Decides.{Decides};
-ghost use Rattle.query_simulation.specs.States.{Members, States, Unused};
 ghost use Rattle.query_simulation.specs.Transitions.{transition-count};
-ghost use Rattle.query_simulation.specs.TransitionIndex.{Indexed, Spread};
-ghost use Rattle.query_simulation.specs.Reading.{Letters, Leads, Closed, Closing, Stepped};
-use crate::index::slot;
-use crate::states::contains;
+ghost use Rattle.query_simulation.specs.TransitionIndex.{Prepared, Active, Met, Spread};
+ghost use Rattle.query_simulation.specs.Reading.{Readable, Leads, Closing, Steps, Stepped};
 use crate::states::put;
 use role_bytes::inverse;
 use role_bytes::is_inverse;
 
 // Whether a path from the state `head` to the next one spells the chain, or its inverse if the role is the inverse of a name. The set after
-// i links has the i-th stamp after the given one; the links go to and fro between the two sets.
+// i links has the i-th stamp after the given one; the links go to and fro between the two lists.
 pub(crate) fn run(
     moves: &[u16],
-    index: &[u16],
     room: usize,
     role: u8,
     chain: &[u8],
     head: usize,
     stamp: u16,
-    states: &mut [u16],
-    others: &mut [u16],
+    space: &mut [u16],
 ) -> bool
-    requires { ⌜ Indexed room (now moves) (now index) (transition-count (now moves)) ⌝ }
-    requires { ⌜ Letters (now chain) ⌝ }
-    requires { ⌜ (head + 1 < room) × (stamp ≤ 64000) ⌝ }
-    requires { ⌜ Unused room stamp (now states) ⌝ }
-    requires { ⌜ Unused room stamp (now others) ⌝ }
+    requires { ⌜ Readable (now moves) room stamp head (now chain) (now space) ⌝ }
     ensures { λ r. ⌜ Decides r (Leads (now (moves .entry)) head (asked role (now (chain .entry))) (head + 1)) ⌝ }
-    ensures { λ _. ⌜ Unused room (stamp + length (now (chain .entry)) + 1) (now (states .exit)) ⌝ }
-    ensures { λ _. ⌜ Unused room (stamp + length (now (chain .entry)) + 1) (now (others .exit)) ⌝ }
+    ensures { λ _. ⌜ Prepared room (stamp + length (now (chain .entry)) + 1) (now (moves .entry)) (transition-count (now (moves .entry))) (now (space .exit)) ⌝ }
 {
-    let size = chain.len();
-    let started = put(states, room, stamp, 0, head);
-    let mut count = close(moves, index, room, states, stamp, started);
+    let started = put(space, room, 0, stamp, 0, head);
+    let mut count = close(moves, room, space, 0, stamp, started);
+    let mut list = 0;
     let mut newest = stamp;
     let mut i = 0;
-    while i + 1 < size {
-        let found = step(
-            moves,
-            index,
-            room,
-            link(role, chain, i),
-            states,
-            count,
-            others,
-            newest + 1,
-        );
-        count = step(
-            moves,
-            index,
-            room,
-            link(role, chain, i + 1),
-            others,
-            found,
-            states,
-            newest + 2,
-        );
-        newest += 2;
-        i += 2;
+    while i < chain.len() {
+        newest += 1;
+        let label = link(role, chain, i) as u16;
+        count = step(moves, room, label, space, list, count, newest);
+        list = room - list;
+        i += 1;
     }
-    if i < size {
-        step(
-            moves,
-            index,
-            room,
-            link(role, chain, i),
-            states,
-            count,
-            others,
-            newest + 1,
-        );
-        return contains(others, room, newest + 1, head + 1);
-    }
-    contains(states, room, newest, head + 1)
+    space[2 * room + (head + 1)] == newest
 }
 
 // Link i of the chain, or of its inverse if the role is the inverse of a name.
@@ -92,81 +52,94 @@ fn link(role: u8, chain: &[u8], i: usize) -> u8
     chain[i]
 }
 
-// Reads one link: fills `others` with what the states reach by the label and then silently; returns its count.
+// Reads one link: fills the other list with what the states of this one reach by the label and then silently; returns its count.
 fn step(
     moves: &[u16],
-    index: &[u16],
     room: usize,
-    label: u8,
-    states: &[u16],
+    label: u16,
+    space: &mut [u16],
+    list: usize,
     count: usize,
-    others: &mut [u16],
     stamp: u16,
 ) -> usize
-    requires { ⌜ Indexed room (now moves) (now index) (transition-count (now moves)) ⌝ }
-    requires { ⌜ label < 128 ⌝ }
-    requires { ⌜ Members room (now states) count ⌝ }
-    requires { ⌜ Closed (now moves) count (now states) count ⌝ }
-    requires { ⌜ Unused room stamp (now others) ⌝ }
-    ensures { λ r. ⌜ Stepped (now (moves .entry)) room stamp label (now (states .entry)) count (now (others .exit)) r ⌝ }
+    requires { ⌜ Steps (now moves) room stamp list label (now space) count ⌝ }
+    ensures { λ r. ⌜ Stepped (now (moves .entry)) room stamp list label (now (space .entry)) count (now (space .exit)) r ⌝ }
 {
+    let next = room - list;
     let mut found = 0;
     let mut i = 0;
     while i < count {
-        let from = states[i] as usize;
-        found = spread(moves, index, room, from, label, others, stamp, found);
+        let slot = 2 * space[list + i] as usize;
+        found = spread(moves, room, slot, label, space, next, stamp, found);
         i += 1;
     }
-    close(moves, index, room, others, stamp, found)
+    close(moves, room, space, next, stamp, found)
 }
 
-// Adds to a set what its members reach silently, walking along them while they grow; returns its count.
+// Adds to the newest set what its members reach silently, walking along them while they grow; returns its count.
 fn close(
     moves: &[u16],
-    index: &[u16],
     room: usize,
-    states: &mut [u16],
+    space: &mut [u16],
+    list: usize,
     stamp: u16,
     count: usize,
 ) -> usize
-    requires { ⌜ Indexed room (now moves) (now index) (transition-count (now moves)) ⌝ }
-    requires { ⌜ States room stamp (now states) count ⌝ }
-    ensures { λ r. ⌜ Closing (now (moves .entry)) room stamp r (now (states .entry)) count (now (states .exit)) r ⌝ }
+    requires { ⌜ Active room stamp list (now moves) (now space) count ⌝ }
+    ensures { λ r. ⌜ Closing (now (moves .entry)) room stamp list r (now (space .entry)) count (now (space .exit)) r ⌝ }
 {
     let mut all = count;
     let mut i = 0;
     while i < all {
-        let from = states[i] as usize;
-        all = spread(moves, index, room, from, 128, states, stamp, all);
+        let slot = 2 * space[list + i] as usize + 1;
+        all = spread(moves, room, slot, 128, space, list, stamp, all);
         i += 1;
     }
     all
 }
 
-// Adds to a set the states to which transitions with the label lead from one state; returns its count.
+// Adds to the newest set the states to which transitions of one list with the label lead; returns its count.
 fn spread(
     moves: &[u16],
-    index: &[u16],
     room: usize,
-    from: usize,
-    label: u8,
-    states: &mut [u16],
+    slot: usize,
+    label: u16,
+    space: &mut [u16],
+    list: usize,
     stamp: u16,
     count: usize,
 ) -> usize
-    requires { ⌜ Indexed room (now moves) (now index) (transition-count (now moves)) ⌝ }
-    requires { ⌜ from < room ⌝ }
-    requires { ⌜ States room stamp (now states) count ⌝ }
-    ensures { λ r. ⌜ Spread room stamp (now (moves .entry)) from label 0 (now (states .entry)) count (now (states .exit)) r ⌝ }
+    requires { ⌜ Active room stamp list (now moves) (now space) count ⌝ }
+    requires { ⌜ slot < 2 * room ⌝ }
+    ensures { λ r. ⌜ Spread room stamp list (now (moves .entry)) slot label 0 (now (space .entry)) count (now (space .exit)) r ⌝ }
 {
     let mut all = count;
-    let mut at = index[slot(room, from, label as u16)] as usize;
+    let mut at = space[3 * room + slot] as usize;
     while 0 < at {
-        let k = at - 1;
-        if moves[3 * k + 1] == label as u16 {
-            all = put(states, room, stamp, all, moves[3 * k + 2] as usize);
-        }
-        at = index[2 * room + k] as usize;
+        all = meet(moves, room, at - 1, label, space, list, stamp, all);
+        at = space[5 * room + at - 1] as usize;
     }
     all
+}
+
+// Adds to the newest set the state to which transition k leads if it has the label; returns the set's count.
+fn meet(
+    moves: &[u16],
+    room: usize,
+    k: usize,
+    label: u16,
+    space: &mut [u16],
+    list: usize,
+    stamp: u16,
+    count: usize,
+) -> usize
+    requires { ⌜ Active room stamp list (now moves) (now space) count ⌝ }
+    requires { ⌜ k < transition-count (now moves) ⌝ }
+    ensures { λ r. ⌜ Met room stamp list (now (moves .entry)) k label (now (space .entry)) count (now (space .exit)) r ⌝ }
+{
+    let place = 3 * k;
+    if moves[place + 1] != label {
+        return count;
+    }
+    put(space, room, list, stamp, count, moves[place + 2] as usize)
 }

@@ -2,15 +2,15 @@
 use mathlib.Core.Bool.{Bool, true, false}
 use mathlib.Core.List.{List}
 use mathlib.Core.Path.{_≡_, refl, sym}
-use Prim.Native.Nat.{ℕ, _+_, _-_, _<_}
+use Prim.Native.Nat.{ℕ, _+_, _*_, _-_, _<_}
 use lib.Dec.{eqb}
 use lib.ListN.{length, getD}
 use Rattle.roles.specs.Role.{Chain, polarity, inv}
 use Rattle.roles.specs.RoleLaws.{getD-inv-chain, length-turn, turn-below}
 use Rattle.query_causes.specs.Query.{asked}
 use Rattle.base.specs.Decides.{Decides}
-use Rattle.query_simulation.specs.States.{Member}
-use Rattle.query_simulation.specs.Reading.{Leads, Stepped, Read}
+use Rattle.query_simulation.specs.StatesLaws.{marked-decides}
+use Rattle.query_simulation.specs.Reading.{Letters, Leads, Stepped, Read}
 use Rattle.query_simulation.specs.ReadingLaws.{read-more, read-decides}
 
 module _ (r : ℕ) (w : Chain) where
@@ -28,19 +28,19 @@ module _ (r : ℕ) (w : Chain) where
     asked-inverse h = rw h (sym (getD-inv-chain w i l))
 
     -- its links are letters
-    pub asked-letter : ((k : ℕ) → k < length w → getD w k 0 < 128) → (a : ℕ) → a ≡ getD (asked r w) i 0 → a < 128
+    pub asked-letter : Letters w → {a : ℕ} → a ≡ getD (asked r w) i 0 → a < 128
     unfolding asked
-    asked-letter h a e = rw e (turn-below 64 (eqb (polarity r) 1) w h i l)
+    asked-letter h e = rw e (turn-below 64 (eqb (polarity r) 1) w (h .small) i l)
 
     -- one more link is read
-    pub read-link : (moves : List ℕ) (room old stamp p : ℕ) (s : List ℕ) (count : ℕ) (t : List ℕ) (more a : ℕ) → Read moves room old p (asked r w) i s count
-        → a ≡ getD (asked r w) i 0 → Stepped moves room stamp a s count t more → Read moves room stamp p (asked r w) (i + 1) t more
-    read-link moves room old stamp p s count t more a so-far e step =
-        read-more moves room stamp p (asked r w) old i s count t more so-far (rw length-asked l) (rw e at step)
+    pub read-link : {moves : List ℕ} {room old stamp list p : ℕ} {s : List ℕ} {count : ℕ} {t : List ℕ} {more a : ℕ}
+        → Read moves room old list p (asked r w) i s count → a ≡ getD (asked r w) i 0 → Stepped moves room stamp list a s count t more
+        → Read moves room stamp (room - list) p (asked r w) (i + 1) t more
+    read-link {p = p} so-far e step = read-more p (asked r w) so-far (rw length-asked l) (rw e at step)
 
-  -- every link is read
-  pub read-asked : (moves : List ℕ) (room stamp p i : ℕ) (s : List ℕ) (count u : ℕ) (b : Bool) → Read moves room stamp p (asked r w) i s count → i ≡ length w
-      → Decides b (Member s count u) → Decides b (Leads moves p (asked r w) u)
-  read-asked moves room stamp p i s count u b all e d =
+  -- every link is read: the stamp tells
+  pub read-asked : {moves : List ℕ} {room stamp list p i : ℕ} {s : List ℕ} {count : ℕ} (u : ℕ) → Read moves room stamp list p (asked r w) i s count → i ≡ length w
+      → u < room → Decides (eqb (getD s (2 * room + u) 0) stamp) (Leads moves p (asked r w) u)
+  read-asked {p = p} {i = i} u all e small =
       let f : i ≡ length (asked r w) = rw length-asked e in
-      read-decides moves room stamp p (asked r w) s count (rw f at all) u b d
+      read-decides p (asked r w) (rw f at all) u (marked-decides (all .good) u small)

@@ -2,9 +2,9 @@ pub mod States
 pub mod StatesLaws
 pub mod Transitions
 pub mod TransitionsLaws
-pub mod Reading
 pub mod TransitionIndex
 pub mod TransitionIndexLaws
+pub mod Reading
 pub mod ReadingLaws
 pub mod TablesLaws
 pub mod QueryLaws

@@ -14,7 +14,7 @@ use borrow.Author.Tests.{leb-true}
 use lib.Dec.{leb}
 use Rattle.base.specs.Truth.{and-right}
 use Rattle.query_causes.specs.Query.{tables-fit, chain-fits, question, query}
-use Rattle.query_simulation.specs.Reading.{Letters}
+use Rattle.query_simulation.specs.Reading.{Letters, Askable}
 use Rattle.query_simulation.specs.TablesLaws.{Tables, tables}
 
 -- the first refusal met, for so many names
@@ -73,15 +73,19 @@ module _ (n r : ℕ) (w : Chain) where
 
 -- a question that is not refused has tables that fit, a name and letters
 module _ (heads moves : List ℕ) (r : ℕ) (w : Chain) (passed : query heads moves r w ≡ ok tt) where
-  pub fitting : Tables heads moves
+  fitting : Tables heads moves
   fitting = tables heads moves (passed-tables heads moves r w passed)
 
   pub named-role : name r < length heads
   named-role = role-named (length heads) r w (passed-roles heads moves r w passed)
 
-  pub letters : Letters w
+  letters : Letters w
   letters =
       record {
         few = leb-true (length w) 1024 (and-right (leb 1 (length w)) (leb (length w) 1024) (passed-chain heads moves r w passed));
         small = link-named (length heads) r w (fitting .few-heads) (passed-roles heads moves r w passed);
       }
+
+  pub askable : Askable moves (getD heads (name r) 0) w
+  askable =
+      record { few = fitting .few; fit = fitting .fit; low = fitting .small-heads (name r) named-role; letters = letters }

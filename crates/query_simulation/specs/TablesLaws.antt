@@ -12,7 +12,7 @@ use lib.ListN.{length, getD, drop, drop-of-length-le, length-drop}
 use lib.Seq.{drop-cons}
 use Rattle.base.specs.Truth.{and-left, and-right}
 use Rattle.query_causes.specs.Query.{transitions-in, heads-fit, transitions-fit, tables-fit}
-use Rattle.query_simulation.specs.Transitions.{from-at, to-at, transition-count, Fit}
+use Rattle.query_simulation.specs.Transitions.{transition-count, Fits, Fit}
 
 -- the initial states from number i on
 module _ (s : List ℕ) (i : ℕ) where
@@ -77,12 +77,8 @@ module _ (s : List ℕ) (i : ℕ) where
     pub to-not : 2047 < getD s (i + 2) 0 → fit-from s i ≡ false
     to-not h = spelled ∙ rw (lt-leb _ _ h, and-false (leb (getD s i 0) 2047 && leb (getD s (i + 1) 0) 128)) refl
 
--- the states of a transition, by its number
-record Small (moves : List ℕ) (k : ℕ) : Type 0 where
-  from-small : from-at moves k < 2048
-  to-small : to-at moves k < 2048
-
-small-at : (moves : List ℕ) → transitions-fit (transitions-in moves) ≡ true → (k : ℕ) → k < transition-count moves → Small moves k
+-- a transition, by its number
+small-at : (moves : List ℕ) → transitions-fit (transitions-in moves) ≡ true → (k : ℕ) → k < transition-count moves → Fits 2048 moves k
 unfolding transitions-fit transitions-in
 small-at [] h k l = absurd (omega arith)
 small-at (p ∷ []) h k l = absurd (omega arith)
@@ -90,15 +86,16 @@ small-at (p ∷ a ∷ []) h k l = absurd (omega arith)
 small-at (p ∷ a ∷ q ∷ ms) h zero l =
     let rest = transitions-fit (transitions-in ms) in
     let e = and-left (leb p 2047 && leb a 128 && leb q 2047) rest h in
-    let f = and-left (leb p 2047) (leb a 128) (and-left (leb p 2047 && leb a 128) (leb q 2047) e) in
-    let x : p ≤ 2047 = leb-true p 2047 f in
+    let f = and-left (leb p 2047 && leb a 128) (leb q 2047) e in
+    let x : p ≤ 2047 = leb-true p 2047 (and-left (leb p 2047) (leb a 128) f) in
     let y : q ≤ 2047 = leb-true q 2047 (and-right (leb p 2047 && leb a 128) (leb q 2047) e) in
-    record { from-small = omega arith; to-small = omega arith }
+    record { from-fits = omega arith; label-fits = leb-true a 128 (and-right (leb p 2047) (leb a 128) f); to-fits = omega arith }
 small-at (p ∷ a ∷ q ∷ ms) h (suc k) l =
-    let r : Small ms k = small-at ms (and-right (leb p 2047 && leb a 128 && leb q 2047) (transitions-fit (transitions-in ms)) h) k (omega arith) in
+    let r : Fits 2048 ms k = small-at ms (and-right (leb p 2047 && leb a 128 && leb q 2047) (transitions-fit (transitions-in ms)) h) k (omega arith) in
     let d : 3 * suc k ≡ suc (suc (suc (3 * k))) = omega arith in
+    let g : 3 * suc k + 1 ≡ suc (suc (suc (3 * k + 1))) = omega arith in
     let e : 3 * suc k + 2 ≡ suc (suc (suc (3 * k + 2))) = omega arith in
-    record { from-small = rw d (r .from-small); to-small = rw e (r .to-small) }
+    record { from-fits = rw d (r .from-fits); label-fits = rw g (r .label-fits); to-fits = rw e (r .to-fits) }
 
 -- cause 12, test by test
 module _ (heads moves : List ℕ) where
@@ -132,6 +129,7 @@ module _ (heads moves : List ℕ) where
 
 -- what tables that fit say
 pub record Tables (heads moves : List ℕ) : Type 0 where
+  pub some-heads : 1 ≤ length heads
   pub few-heads : length heads ≤ 64
   pub small-heads : (i : ℕ) → i < length heads → getD heads i 0 ≤ 2046
   pub few : length moves ≤ 15360
@@ -145,17 +143,13 @@ tables heads moves h =
     let right = transitions-fit (transitions-in moves) in
     let p = and-left left (front && right) h in
     let q = and-right left (front && right) h in
-    let few = and-right (leb 1 (length heads)) (leb (length heads) 64) (and-left (leb 1 (length heads) && leb (length heads) 64) (heads-fit heads) p) in
+    let count = and-left (leb 1 (length heads) && leb (length heads) 64) (heads-fit heads) p in
     let fits = and-right (leb 1 (length heads) && leb (length heads) 64) (heads-fit heads) p in
     let short = and-right (eqb (length moves % 3) 0) (leb (length moves) 15360) (and-left front right q) in
-    let small = small-at moves (and-right front right q) in
     record {
-      few-heads = leb-true (length heads) 64 few;
+      some-heads = leb-true 1 (length heads) (and-left (leb 1 (length heads)) (leb (length heads) 64) count);
+      few-heads = leb-true (length heads) 64 (and-right (leb 1 (length heads)) (leb (length heads) 64) count);
       small-heads = head-fits heads fits;
       few = leb-true (length moves) 15360 short;
-      fit =
-          record {
-            from-fits = λ k l. small k l .from-small;
-            to-fits = λ k l. small k l .to-small;
-          };
+      fit = small-at moves (and-right front right q);
     }

@@ -1,46 +1,51 @@
--- An index of transitions by their from state, letters apart from silent ones: lists that run through one array.
-use mathlib.Core.Bool.{cond}
+-- An index of transitions by their from state, letters apart from silent ones: lists that run through one array, behind the sets of states.
 use mathlib.Core.List.{List}
 use mathlib.Core.Path.{_≡_}
-use Prim.Native.Nat.{ℕ, _+_, _*_, _-_, _<_, _≤_}
-use lib.Dec.{eqb}
-use lib.ListN.{length, getD}
+use Prim.Native.Nat.{ℕ, _+_, _*_, _-_, _/_, _<_, _≤_}
+use lib.ListN.{length, getD, drop}
 use Rattle.tables.specs.Tables.{epsilon}
 use Rattle.linked_lists.specs.LinkedLists.{Linked}
-use Rattle.query_simulation.specs.States.{Member, Added}
-use Rattle.query_simulation.specs.Transitions.{from-at, label-at, to-at, transition-count, Arrow, Fits}
+use Rattle.query_simulation.specs.States.{Member, States, Unused, Added}
+use Rattle.query_simulation.specs.Transitions.{from-at, label-at, to-at, transition-count, Arrow, FirstFit}
+
+-- which list has the transitions from p with the label a: two for each state, the second for silent ones
+abbrev pub slot : (p a : ℕ) → ℕ
+slot p a = 2 * p + a / epsilon
+
+abbrev pub slot-at : List ℕ → ℕ → ℕ
+slot-at moves k = slot (from-at moves k) (label-at moves k)
 
 module _ (room : ℕ) where
-  -- which list has the transitions from p with the label a
-  unfoldable pub slot : (p a : ℕ) → ℕ
-  slot p a = cond (eqb a epsilon) (room + p) p
+  -- the index of the first n transitions stands behind the sets
+  pub record Indexed (moves s : List ℕ) (n : ℕ) : Type 0 where
+    pub fit : FirstFit room moves n
+    pub space : 5 * room + transition-count moves ≤ length s
+    pub short : length s ≤ 15360
+    pub linked : Linked (slot-at moves) (2 * room) (drop (3 * room) s) n
 
-  abbrev pub slot-at : List ℕ → ℕ → ℕ
-  slot-at moves k = slot (from-at moves k) (label-at moves k)
+  -- the sets are empty under the stamp, and the first n transitions are in the index
+  pub record Prepared (stamp : ℕ) (moves : List ℕ) (n : ℕ) (s : List ℕ) : Type 0 where
+    pub unused : Unused room stamp s
+    pub indexed : Indexed moves s n
 
-  -- numbers that have space for an index, with empty lists
-  pub record Empty (moves index : List ℕ) : Type 0 where
-    pub few : room ≤ 2048
-    pub space : 2 * room + transition-count moves ≤ length index
-    pub short : length index ≤ 9216
-    pub clear : (x : ℕ) → x < 2 * room → getD index x 0 ≡ 0
+  -- the newest set, and the index of all transitions behind it
+  pub record Active (stamp list : ℕ) (moves s : List ℕ) (count : ℕ) : Type 0 where
+    pub good : States room stamp s list count
+    pub indexed : Indexed moves s (transition-count moves)
 
-  -- the index of the first n transitions
-  pub record Indexed (moves index : List ℕ) (n : ℕ) : Type 0 where
-    pub few : room ≤ 2048
-    pub fit : Fits room moves n
-    pub space : 2 * room + transition-count moves ≤ length index
-    pub short : length index ≤ 9216
-    pub linked : Linked (slot-at moves) (2 * room) index n
+  -- t is s with the state to which transition k leads, if it has the label a
+  pub record Met (stamp list : ℕ) (moves : List ℕ) (k a : ℕ) (s : List ℕ) (count : ℕ) (t : List ℕ) (more : ℕ) : Type 0 where
+    pub added : Added room stamp list s count t more (λ q. (label-at moves k ≡ a) × (q ≡ to-at moves k))
+    pub there : label-at moves k ≡ a → Member t list more (to-at moves k)
 
-  module _ (stamp : ℕ) where
-    -- t is s with the states to which transitions from p with the label a lead, of those from number n on
-    pub record Spread (moves : List ℕ) (p a n : ℕ) (s : List ℕ) (count : ℕ) (t : List ℕ) (more : ℕ) : Type 0 where
-      pub added : Added room stamp s count t more (Arrow moves p a)
-      pub there : (k : ℕ) → n ≤ k → k < transition-count moves → from-at moves k ≡ p → label-at moves k ≡ a → Member t more (to-at moves k)
+  module _ (stamp list : ℕ) (moves : List ℕ) (x a : ℕ) where
+    -- t is s with the states to which transitions with the label a lead from the state that has the list x, of those from number n on
+    pub record Spread (n : ℕ) (s : List ℕ) (count : ℕ) (t : List ℕ) (more : ℕ) : Type 0 where
+      pub added : Added room stamp list s count t more (λ q. (p : ℕ) → slot p a ≡ x → Arrow moves p a q)
+      pub there : (k : ℕ) → n ≤ k → k < transition-count moves → slot-at moves k ≡ x → label-at moves k ≡ a → Member t list more (to-at moves k)
 
-    -- a walk along the list for the state p and the label a: the transitions before the entry are left
-    pub record Walked (moves : List ℕ) (p a entry : ℕ) (s : List ℕ) (count : ℕ) (t : List ℕ) (more : ℕ) : Type 0 where
+    -- a walk along the list x: the transitions before the entry are left
+    pub record Walked (entry : ℕ) (s : List ℕ) (count : ℕ) (t : List ℕ) (more : ℕ) : Type 0 where
       pub low : entry ≤ transition-count moves
-      pub own : 0 < entry → slot-at moves (entry - 1) ≡ slot p a
-      pub spread : Spread moves p a entry s count t more
+      pub own : 0 < entry → slot-at moves (entry - 1) ≡ x
+      pub spread : Spread entry s count t more

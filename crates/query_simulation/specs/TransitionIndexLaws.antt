@@ -1,158 +1,184 @@
 -- Laws of the index: one more transition enters it; a walk along a list meets every transition with its state and label.
-use mathlib.Core.Bool.{Bool, true, false, cond}
 use mathlib.Core.List.{List}
 use mathlib.Core.Logic.{_⊎_, inl, inr}
 use mathlib.Core.Path.{_≡_, refl, sym, ap, _∙_}
 use Prim.Native.Nat.{ℕ, _+_, _*_, _-_, _<_, _≤_}
 use native.Mathlib.Omega.{arith}
 use borrow.Author.Count.{below-more}
-use borrow.Author.Tests.{eq-eqb, ne-eqb}
-use lib.Dec.{eqb}
-use lib.ListN.{getD, set, length-set}
-use Rattle.tables.specs.Tables.{epsilon}
+use lib.ListN.{length, getD, set, drop, replicate, length-set, length-drop, length-replicate, getD-replicate}
+use lib.Seq.{getD-drop, getD-set-other, drop-set-add}
 use Rattle.linked_lists.specs.LinkedLists.{Latest}
 use Rattle.linked_lists.specs.LinkedListsLaws as linked
-use Rattle.query_simulation.specs.States.{States, Member, Put}
-use Rattle.query_simulation.specs.StatesLaws.{added-none, added-on, added-as, still-member}
-use Rattle.query_simulation.specs.Transitions.{from-at, label-at, to-at, transition-count, Arrow}
+use Rattle.query_simulation.specs.States.{States, Member, Behind, Put}
+use Rattle.query_simulation.specs.StatesLaws.{unused-zeros, added-none, added-on, added-as, still-member}
+use Rattle.query_simulation.specs.Transitions.{from-at, label-at, to-at, transition-count, Arrow, Fits}
 use Rattle.query_simulation.specs.TransitionsLaws.{Numbered, arrow-at, numbered}
-use Rattle.query_simulation.specs.TransitionIndex.{slot, slot-at, Empty, Indexed, Spread, Walked}
+use Rattle.query_simulation.specs.TransitionIndex.{slot, slot-at, Indexed, Prepared, Met, Spread, Walked}
 
-module _ (room : ℕ) where
-  pub slot-below : (p a : ℕ) → p < room → slot room p a < 2 * room
-  unfolding slot
-  slot-below p a l = by-test (eqb a epsilon)
-    where
-      by-test : (t : Bool) → cond t (room + p) p < 2 * room
-      by-test true = omega arith
-      by-test false = omega arith
-
-  pub slot-silent : (p a : ℕ) → a ≡ epsilon → room + p ≡ slot room p a
-  unfolding slot
-  slot-silent p a e = rw (eq-eqb a epsilon e) refl
-
-  pub slot-letter : (p a : ℕ) → (a ≡ epsilon → ⊥) → p ≡ slot room p a
-  unfolding slot
-  slot-letter p a e = rw (ne-eqb a epsilon e) refl
-
-  -- with one label, lists are told apart by the state
-  slot-same : (p q a : ℕ) → slot room p a ≡ slot room q a → p ≡ q
-  unfolding slot
-  slot-same p q a e = by-test (eqb a epsilon) e
-    where
-      by-test : (t : Bool) → cond t (room + p) p ≡ cond t (room + q) q → p ≡ q
-      by-test true h = omega (arith, h)
-      by-test false h = h
-
-  -- no transition is in
-  pub indexed-none : (moves index : List ℕ) → Empty room moves index → Indexed room moves index 0
-  indexed-none moves index empty =
+module _ {room : ℕ} where
+  -- zeros are empty sets, and an index with no transition in
+  pub prepared-zeros : (moves : List ℕ) (size : ℕ) → room ≤ 2048 → 5 * room + transition-count moves ≤ size → size ≤ 15360
+      → Prepared room 1 moves 0 (replicate size 0)
+  prepared-zeros moves size low space short =
+      let zeros : List ℕ = replicate size 0 in
+      let zero-at : (x : ℕ) → x < size → getD zeros x 0 ≡ 0 = λ x l. getD-replicate {A = ℕ} size x 0 0 l in
+      let long : length zeros ≡ size = length-replicate {A = ℕ} size 0 in
+      let left : length (drop (3 * room) zeros) ≡ size - 3 * room = length-drop (3 * room) zeros ∙ ap (λ (n : ℕ). n - 3 * room) long in
       record {
-        few = empty .few;
-        fit = record { from-fits = λ k l. omega (arith, l); to-fits = λ k l. omega (arith, l) };
-        space = empty .space;
-        short = empty .short;
-        linked = linked.linked-none (slot-at room moves) (2 * room) index (omega (arith, empty .space)) (empty .clear);
+        unused = unused-zeros size low (omega arith);
+        indexed =
+            record {
+              fit = λ k l. absurd (omega arith);
+              space = omega (arith, long);
+              short = omega (arith, long);
+              linked =
+                  linked.linked-none (slot-at moves) (2 * room) (drop (3 * room) zeros) (omega (arith, left))
+                  (λ x l. getD-drop (3 * room) zeros x 0 ∙ zero-at (3 * room + x) (omega arith));
+            };
       }
 
   -- one more transition enters
-  pub indexed-more : (moves index : List ℕ) (n : ℕ) → Indexed room moves index n → n < transition-count moves → from-at moves n < room → to-at moves n < room
-      → Indexed room moves (set (set index (2 * room + n) (getD index (slot-at room moves n) 0)) (slot-at room moves n) (n + 1)) (n + 1)
-  indexed-more moves index n so-far more from to =
-      record {
-        few = so-far .few;
-        fit =
-            record {
-              from-fits = below-more (λ (k : ℕ). from-at moves k < room) n (so-far .fit .from-fits) from;
-              to-fits = below-more (λ (k : ℕ). to-at moves k < room) n (so-far .fit .to-fits) to;
-            };
-        space = simp length-set (so-far .space);
-        short = simp length-set (so-far .short);
-        linked =
-            linked.linked-more (slot-at room moves) (2 * room) index n (so-far .linked) (omega (arith, so-far .space))
-            (slot-below (from-at moves n) (label-at moves n) from);
-      }
+  module _ (moves s : List ℕ) (n : ℕ) (so-far : Prepared room 1 moves n s) (more : n < transition-count moves) (fits : Fits room moves n) where
+    slot-below : slot-at moves n < 2 * room
+    slot-below = omega (arith, fits .from-fits, fits .label-fits)
 
-  -- a walk along the list for the state p and the label a
-  module _ (stamp : ℕ) (moves index : List ℕ) (indexed : Indexed room moves index (transition-count moves)) (p a : ℕ) (s : List ℕ) (count : ℕ) where
-    pub walked-start : p < room → States room stamp s count → Walked room stamp moves p a (getD index (slot room p a) 0) s count s count
-    walked-start small good =
-        let here : Latest (slot-at room moves) (slot room p a) (transition-count moves) (getD index (slot room p a) 0) =
-        indexed .linked .last (slot room p a) (slot-below p a small) in
+    entered : List ℕ
+    entered = set (set s (5 * room + n) (getD s (3 * room + slot-at moves n) 0)) (3 * room + slot-at moves n) (n + 1)
+
+    -- what stands before the index stays
+    before : (x : ℕ) → x < 3 * room → getD entered x 0 ≡ getD s x 0
+    unfolding entered
+    before x l =
+        getD-set-other (set s (5 * room + n) (getD s (3 * room + slot-at moves n) 0)) (3 * room + slot-at moves n) x (n + 1) 0 (omega arith)
+        ∙ getD-set-other s (5 * room + n) x (getD s (3 * room + slot-at moves n) 0) 0 (omega arith)
+
+    index : drop (3 * room) entered
+        ≡ set (set (drop (3 * room) s) (2 * room + n) (getD (drop (3 * room) s) (slot-at moves n) 0)) (slot-at moves n) (n + 1)
+    unfolding entered
+    index =
+        let e : 5 * room + n ≡ 3 * room + (2 * room + n) = omega arith in
+        drop-set-add (3 * room) (set s (5 * room + n) (getD s (3 * room + slot-at moves n) 0)) (slot-at moves n) (n + 1)
+        ∙ ap (λ (l : List ℕ). set l (slot-at moves n) (n + 1))
+        (ap (λ (k : ℕ). drop (3 * room) (set s k (getD s (3 * room + slot-at moves n) 0))) e
+        ∙ drop-set-add (3 * room) s (2 * room + n) (getD s (3 * room + slot-at moves n) 0)
+        ∙ ap (set (drop (3 * room) s) (2 * room + n)) (sym (getD-drop (3 * room) s (slot-at moves n) 0)))
+
+    pub prepared-more : Prepared room 1 moves (n + 1)
+        (set (set s (5 * room + n) (getD s (3 * room + slot-at moves n) 0)) (3 * room + slot-at moves n) (n + 1))
+    unfolding entered
+    prepared-more =
+        let old = so-far .indexed in
         record {
-          low = here .low;
-          own = here .own;
-          spread =
+          unused =
               record {
-                added = added-none room stamp s count good (Arrow moves p a);
-                there = λ k h l e f. absurd (here .none-later k h l (rw (e, f) refl));
+                low = so-far .unused .low;
+                size = simp length-set (so-far .unused .size);
+                older = λ q l. rw (before (2 * room + q) (omega arith)) (so-far .unused .older q l);
+              };
+          indexed =
+              record {
+                fit = below-more (λ (k : ℕ). Fits room moves k) n (old .fit) fits;
+                space = simp length-set (old .space);
+                short = simp length-set (old .short);
+                linked =
+                    rw index
+                    (linked.linked-more (slot-at moves) (2 * room) (drop (3 * room) s) n (old .linked)
+                    (rw (length-drop (3 * room) s) (omega (arith, old .space))) slot-below);
               };
         }
 
-    -- one more transition is met
-    module _ (t : List ℕ) (more entry : ℕ) (so-far : Walked room stamp moves p a entry s count t more) (some : 0 < entry) where
-      pub next-less : getD index (2 * room + (entry - 1)) 0 < entry
-      next-less =
-          linked.next-less (slot-at room moves) (2 * room) index (transition-count moves) (indexed .linked) (slot room p a) entry (so-far .low) (so-far .own) some
+  -- the index stands behind what is kept
+  pub indexed-behind : {moves s t : List ℕ} {n : ℕ} → Behind room s t → Indexed room moves s n → Indexed room moves t n
+  indexed-behind b i =
+      record {
+        fit = i .fit;
+        space = omega (arith, i .space, b .same);
+        short = omega (arith, i .short, b .same);
+        linked = rw (b .rest) (i .linked);
+      }
 
-      -- the entry for the one before it
-      next : ℕ
-      next = getD index (2 * room + (entry - 1)) 0
+  module _ {stamp list : ℕ} {s : List ℕ} {count : ℕ} where
+    -- a transition has the label, or not
+    pub met-same : (moves : List ℕ) (k a : ℕ) {t : List ℕ} {more : ℕ} → label-at moves k ≡ a → Put room stamp list (to-at moves k) s count t more
+        → Met room stamp list moves k a s count t more
+    met-same moves k a e put = record { added = added-as (λ x d. (e, d)) (put .added); there = λ f. put .there }
 
-      walked-next : (u : List ℕ) (all : ℕ) → Spread room stamp moves p a next s count u all → Walked room stamp moves p a next s count u all
-      unfolding next
-      walked-next u all spread =
+    pub met-other : (moves : List ℕ) (k a : ℕ) → (label-at moves k ≡ a → ⊥) → States room stamp s list count → Met room stamp list moves k a s count s count
+    met-other moves k a e good = record { added = added-none good _; there = λ f. absurd (e f) }
+
+    module _ {moves : List ℕ} (indexed : Indexed room moves s (transition-count moves)) {x a : ℕ} where
+      -- a walk along the list x
+      pub walked-start : x < 2 * room → States room stamp s list count → Walked room stamp list moves x a (getD s (3 * room + x) 0) s count s count
+      walked-start small good =
+          let here : Latest (slot-at moves) x (transition-count moves) (getD s (3 * room + x) 0) =
+          rw (getD-drop (3 * room) s x 0) at (indexed .linked .last x small) in
           record {
-            low = omega (arith, next-less, so-far .low);
-            own =
-                linked.next-own (slot-at room moves) (2 * room) index (transition-count moves) (indexed .linked) (slot room p a) entry (so-far .low)
-                (so-far .own) some;
-            spread = spread;
+            low = here .low;
+            own = here .own;
+            spread = record { added = added-none good _; there = λ k h l e f. absurd (here .none-later k h l e) };
           }
 
-      -- a transition of p with the label a from the next entry on is this one or one met before
-      met : (k : ℕ) → next ≤ k → from-at moves k ≡ p → label-at moves k ≡ a → (k ≡ entry - 1) ⊎ (entry ≤ k)
-      unfolding next
-      met k h e f =
-          linked.met (slot-at room moves) (2 * room) index (transition-count moves) (indexed .linked) (slot room p a) entry (so-far .low) (so-far .own) some k
-          h (rw (e, f) refl)
+      -- one more transition is met
+      module _ {t : List ℕ} {more entry : ℕ} (so-far : Walked room stamp list moves x a entry s count t more) (some : 0 < entry) where
+        -- the entry for the one before it
+        next : ℕ
+        next = getD (drop (3 * room) s) (2 * room + (entry - 1)) 0
 
-      pub walked-same : label-at moves (entry - 1) ≡ a → (u : List ℕ) (all : ℕ) → Put room stamp (to-at moves (entry - 1)) t more u all
-          → Walked room stamp moves p a (getD index (2 * room + (entry - 1)) 0) s count u all
-      unfolding next
-      walked-same f u all put =
-          walked-next u all
-          (record {
-            added =
-                added-on room stamp s count t more u all (Arrow moves p a) (so-far .spread .added)
-                (added-as room stamp t more u all _ (Arrow moves p a) arrow-here (put .added));
-            there = λ k h l e g. by-number k l e g (met k h e g);
-          })
-        where
-          from-here : from-at moves (entry - 1) ≡ p
-          from-here = slot-same (from-at moves (entry - 1)) p a (ap (slot room (from-at moves (entry - 1))) (sym f) ∙ so-far .own some)
+        next-at : {u : List ℕ} → Behind room s u → getD u (5 * room + entry - 1) 0 ≡ next
+        unfolding next
+        next-at {u} b =
+            let e : 5 * room + entry - 1 ≡ 3 * room + (2 * room + (entry - 1)) = omega arith in
+            ap (λ (i : ℕ). getD u i 0) e
+            ∙ sym (getD-drop (3 * room) u (2 * room + (entry - 1)) 0)
+            ∙ ap (λ (l : List ℕ). getD l (2 * room + (entry - 1)) 0) (b .rest)
 
-          arrow-here : (x : ℕ) → x ≡ to-at moves (entry - 1) → Arrow moves p a x
-          arrow-here x e = rw (e, ← from-here, ← f) (arrow-at moves (entry - 1) (omega (arith, so-far .low)))
+        below : next < entry
+        unfolding next
+        below = linked.next-less (slot-at moves) (2 * room) (drop (3 * room) s) (transition-count moves) (indexed .linked) x entry (so-far .low) (so-far .own) some
 
-          by-number : (k : ℕ) → k < transition-count moves → from-at moves k ≡ p → label-at moves k ≡ a → (k ≡ entry - 1) ⊎ (entry ≤ k)
-              → Member u all (to-at moves k)
-          by-number k l e g (inl d) = rw d (put .there)
-          by-number k l e g (inr d) = still-member room stamp t more u all _ (to-at moves k) (put .added) (so-far .spread .there k d l e g)
+        own : 0 < next → slot-at moves (next - 1) ≡ x
+        unfolding next
+        own = linked.next-own (slot-at moves) (2 * room) (drop (3 * room) s) (transition-count moves) (indexed .linked) x entry (so-far .low) (so-far .own) some
 
-      pub walked-other : (label-at moves (entry - 1) ≡ a → ⊥) → Walked room stamp moves p a (getD index (2 * room + (entry - 1)) 0) s count t more
-      unfolding next
-      walked-other f =
-          walked-next t more (record { added = so-far .spread .added; there = λ k h l e g. by-number k l e g (met k h e g) })
-        where
-          by-number : (k : ℕ) → k < transition-count moves → from-at moves k ≡ p → label-at moves k ≡ a → (k ≡ entry - 1) ⊎ (entry ≤ k)
-              → Member t more (to-at moves k)
-          by-number k l e g (inl d) = absurd (f (ap (label-at moves) (sym d) ∙ g))
-          by-number k l e g (inr d) = so-far .spread .there k d l e g
+        -- a transition of the list from the next entry on is this one or one met before
+        met : (k : ℕ) → next ≤ k → slot-at moves k ≡ x → (k ≡ entry - 1) ⊎ (entry ≤ k)
+        unfolding next
+        met = linked.met (slot-at moves) (2 * room) (drop (3 * room) s) (transition-count moves) (indexed .linked) x entry (so-far .low) (so-far .own) some
 
-  -- every transition from p with the label a has been met
-  pub spread-all : (stamp : ℕ) (moves : List ℕ) (p a : ℕ) (s : List ℕ) (count : ℕ) (t : List ℕ) (more : ℕ) → Spread room stamp moves p a 0 s count t more
-      → (q : ℕ) → Arrow moves p a q → Member t more q
-  spread-all stamp moves p a s count t more all q m =
-      let n : Numbered moves p a q = numbered moves p a q m in
-      rw (← n .to-is) (all .there (n .number) (omega arith) (n .inside) (n .from-is) (n .label-is))
+        module _ {u : List ℕ} {all : ℕ} (one : Met room stamp list moves (entry - 1) a t more u all) where
+          kept : Behind room s u
+          kept = record { same = one .added .behind .same ∙ so-far .spread .added .behind .same; rest = one .added .behind .rest ∙ so-far .spread .added .behind .rest }
+
+          pub next-less : getD u (5 * room + entry - 1) 0 < entry
+          next-less = rw (next-at kept) below
+
+          pub walked-more : Walked room stamp list moves x a (getD u (5 * room + entry - 1) 0) s count u all
+          walked-more =
+              rw (next-at kept)
+              (record {
+                low = omega (arith, below, so-far .low);
+                own = own;
+                spread =
+                    record {
+                      added = added-on (so-far .spread .added) (added-as arrow-here (one .added));
+                      there = λ k h l e f. by-number k l e f (met k h e);
+                    };
+              })
+            where
+              arrow-here : (q : ℕ) → (label-at moves (entry - 1) ≡ a) × (q ≡ to-at moves (entry - 1)) → (p : ℕ) → slot p a ≡ x → Arrow moves p a q
+              arrow-here q d p e =
+                  let from : from-at moves (entry - 1) ≡ p = omega (arith, so-far .own some, d .0, e) in
+                  rw (d .1, ← from, ← d .0) (arrow-at moves (entry - 1) (omega (arith, so-far .low)))
+
+              by-number : (k : ℕ) → k < transition-count moves → slot-at moves k ≡ x → label-at moves k ≡ a → (k ≡ entry - 1) ⊎ (entry ≤ k)
+                  → Member u list all (to-at moves k)
+              by-number k l e f (inl d) = rw d (one .there (rw d at f))
+              by-number k l e f (inr d) = still-member (one .added) (so-far .spread .there k d l e f)
+
+-- every transition from p with the label a has been met
+pub spread-all : {room stamp list : ℕ} {moves : List ℕ} {x a : ℕ} {s : List ℕ} {count : ℕ} {t : List ℕ} {more : ℕ} → Spread room stamp list moves x a 0 s count t more
+    → (p q : ℕ) → slot p a ≡ x → Arrow moves p a q → Member t list more q
+spread-all {moves = moves} {x = x} {a = a} all p q e m =
+    let n : Numbered moves p a q = numbered moves p a q m in
+    let same : slot-at moves (n .number) ≡ x = rw (n .from-is, n .label-is) e in
+    rw (← n .to-is) (all .there (n .number) (omega arith) (n .inside) same (n .label-is))

@@ -1,8 +1,8 @@
 -- The transitions that numbers spell, three for each, by their number.
 use mathlib.Core.List.{List, List·Memᴰ}
-use Prim.Native.Nat.{ℕ, _+_, _*_, _/_, _<_}
+use Prim.Native.Nat.{ℕ, _+_, _*_, _/_, _<_, _≤_}
 use lib.ListN.{length, getD}
-use Rattle.tables.specs.Tables.{Transition}
+use Rattle.tables.specs.Tables.{Transition, epsilon}
 use Rattle.query_causes.specs.Query.{transitions-in}
 
 abbrev pub from-at : List ℕ → ℕ → ℕ
@@ -25,11 +25,27 @@ arrow p a q = record { from = p; label = a; to = q }
 abbrev pub Arrow : List ℕ → (p a q : ℕ) → Type 0
 Arrow moves p a q = List·Memᴰ (arrow p a q) (transitions-in moves)
 
--- the first n are between states below some room
-pub record Fits (room : ℕ) (moves : List ℕ) (n : ℕ) : Type 0 where
-  pub from-fits : (k : ℕ) → k < n → from-at moves k < room
-  pub to-fits : (k : ℕ) → k < n → to-at moves k < room
+-- transition k is between states below some room, and its label is a letter or silent
+pub record Fits (room : ℕ) (moves : List ℕ) (k : ℕ) : Type 0 where
+  pub from-fits : from-at moves k < room
+  pub label-fits : label-at moves k ≤ epsilon
+  pub to-fits : to-at moves k < room
+
+-- each of the first n is so
+abbrev pub FirstFit : (room : ℕ) (moves : List ℕ) (n : ℕ) → Type 0
+FirstFit room moves n = (k : ℕ) → k < n → Fits room moves k
 
 -- all are
 abbrev pub Fit : (room : ℕ) (moves : List ℕ) → Type 0
-Fit room moves = Fits room moves (transition-count moves)
+Fit room moves = FirstFit room moves (transition-count moves)
+
+-- small tables: at most 192 transitions, of states below 64, as is the one after `head`
+pub record Small (moves : List ℕ) (head : ℕ) : Type 0 where
+  pub after : head < 63
+  pub few : length moves ≤ 576
+  pub fit : Fit 64 moves
+
+-- states of the first n and the one after `head` are at most so large
+pub record Under (moves : List ℕ) (head n most : ℕ) : Type 0 where
+  pub after : head < most
+  pub states : (k : ℕ) → k < n → (from-at moves k ≤ most) × (to-at moves k ≤ most)

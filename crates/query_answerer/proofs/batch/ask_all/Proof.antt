@@ -1,35 +1,29 @@
--- `ask_all` meets its contract: the tables are checked and indexed once, in fresh arrays.
-use mathlib.Core.Bool.{false≢true}
+-- `ask_all` meets its contract: the tables are checked and indexed once, in a fresh array.
 use mathlib.Core.Logic.{⊎-elim}
-use mathlib.Core.Path.{refl, sym, _∙_}
-use Prim.Native.Nat.{ℕ}
+use mathlib.Core.Path.{refl}
 use native.Mathlib.Omega.{arith}
-use lib.ListN.{getD-replicate}
-use Rattle.query_causes.specs.Query.{tables-fit}
+use borrow.Author.Needs.{needs}
 use Rattle.refusals.specs.Check.{check-passed, check-failed}
 use Rattle.query_simulation.specs.StatesLaws.{unused-zeros}
 use Rattle.query_simulation.specs.TablesLaws.{tables}
-use borrow.Author.Needs.{needs}
+use Rattle.query_simulation.specs.TransitionIndexLaws.{prepared-zeros}
+use Rattle.query_answerer.specs.BatchLaws.{ready-fit, ready-wrong}
 use Rattle.query_answerer.proofs.batch.ask_all.Statement.{statement}
 use Rattle.query_answerer.proofs.batch.ask_all.Tie as tie
 
 fill-index-requires : tie.Need-fill-index-requires
-fill-index-requires c κs = let fit = tables _ _ (check-passed _ _ (c .before .before .before .tables-fit .ensures) (c .before .enum-told .given .1)) in (fit .fit, record { few = omega arith; space = omega (arith, fit .few); short = omega arith; clear = λ x l. getD-replicate {A = ℕ} 9216 x 0 0 (omega arith) })
+fill-index-requires c κs = let t = tables _ _ (check-passed _ _ (c .before .before .before .tables-fit .ensures) (c .before .enum-told .given .1)) in (t .fit, prepared-zeros _ 15360 (omega arith) (omega (arith, t .few)) (omega arith))
+
+cast-names : tie.Need-cast-names
+cast-names c = omega (arith, tables _ _ (check-passed _ _ (c .before .before .before .before .before .tables-fit .ensures) (c .before .before .before .enum-told .given .1)) .few-heads)
 
 slice-aggregate-answer-each : tie.Need-slice-aggregate-answer-each
-slice-aggregate-answer-each c = ⊎-elim (λ w. rw (w .5) (search needs)) (λ w. rw (w .2) refl) (c .before .match .came)
+slice-aggregate-answer-each c = ⊎-elim (λ w. rw (w .5) (search needs)) (λ w. rw (w .2) refl) (c .before .before .match .came)
 
 answer-each-requires : tie.Need-answer-each-requires
-answer-each-requires c κs = (
-  record {
-    judged = c .before .before .before .before .before .tables-fit .ensures;
-    indexed = λ h.
-        ⊎-elim (λ w. rw (w .5) (w .3 .ensures))
-        (λ w. absurd (false≢true (sym (check-failed (tables-fit (c .before .before .before .before .before .before .before .before .before .before .args .heads .now) (c .before .before .before .before .before .before .before .before .before .before .args .moves .now)) (c .before .before .before .before .before .tables-fit .result) (c .before .before .before .before .before .tables-fit .ensures) (w .1 .given .1)) ∙ check-passed (tables-fit (c .before .before .before .before .before .before .before .before .before .before .args .heads .now) (c .before .before .before .before .before .before .before .before .before .before .args .moves .now)) (c .before .before .before .before .before .tables-fit .result) (c .before .before .before .before .before .tables-fit .ensures) h)))
-        (c .before .before .before .before .match .came);
-  },
-  (unused-zeros _ _ refl, unused-zeros _ _ refl),
-)
+answer-each-requires c κs =
+    let at-tables-fit = c .before .before .before .tables-fit in
+    ⊎-elim (λ w. rw (w .5, w .6) (ready-fit _ _ (check-passed _ _ (at-tables-fit .ensures) (w .1 .given .1)) (w .3 .ensures))) (λ w. rw (w .2, w .3) (ready-wrong _ _ (check-failed _ _ (at-tables-fit .ensures) (w .1 .given .1)) (unused-zeros 15360 (omega arith) (omega arith)))) (c .before .before .match .came)
 
 pub ask-all-spec : {M : Type 1} → statement M
 ask-all-spec =
@@ -39,10 +33,9 @@ ask-all-spec =
     (λ c. search needs)
     (λ c. search needs)
     fill-index-requires
+    cast-names
     (λ c. search needs)
     slice-aggregate-answer-each
-    (λ c. search needs)
-    (λ c. search needs)
     answer-each-requires
     (λ c. search needs)
     (λ c. search needs))

@@ -5,27 +5,20 @@ use Rattle.query_answerer.specs.BatchLaws.{sized-short, sized-part, size
 use Rattle.query_answerer.proofs.batch.whole.Statement.{statement}
 use Rattle.query_answerer.proofs.batch.whole.Tie as tie
 
-sub-left : tie.Need-sub-left
-sub-left c = search needs
-
-returns : tie.Need-returns
-returns c = sized-short _ _ (c .before .before .pre) (c .if1 .taken)
-
-add-word : tie.Need-add-word
-add-word c = search needs
-
-word-requires : tie.Need-word-requires
-word-requires c κs = search needs
-
 returns-2 : tie.Need-returns-2
 returns-2 c = sized-part _ _ (c .before .before .before .before .pre) (omega arith) (omega (arith, c .before .word .ensures))
-
-add-result : tie.Need-add-result
-add-result c = search needs
 
 returns-3 : tie.Need-returns-3
 returns-3 c = rw (c .before .word .ensures) (sized-whole _ _ (c .before .before .before .before .pre) (omega arith) (omega (arith, c .before .word .ensures)))
 
 pub whole-spec : {M : Type 1} → statement M
 whole-spec =
-    tie.close (tie.spec sub-left returns add-word word-requires returns-2 add-result returns-3)
+    tie.close
+    (tie.spec
+    (λ c. search needs)
+    (λ c. sized-short _ _ (c .before .before .pre) (c .if1 .taken))
+    (λ c. search needs)
+    (λ c κs. search needs)
+    returns-2
+    (λ c. search needs)
+    returns-3)

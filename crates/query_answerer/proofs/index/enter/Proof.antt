@@ -2,15 +2,24 @@
 use native.Mathlib.Omega.{arith}
 use borrow.Author.Needs.{needs}
 use lib.ListN.{length-set}
-use Rattle.query_simulation.specs.TransitionIndexLaws.{indexed-more}
+use Rattle.query_simulation.specs.TransitionIndexLaws.{prepared-more}
 use Rattle.query_answerer.proofs.index.enter.Statement.{statement}
 use Rattle.query_answerer.proofs.index.enter.Tie as tie
 
-slice-write-index-2 : tie.Need-slice-write-index-2
-slice-write-index-2 c = simp length-set (omega (arith, c .before .slot .ensures .1, c .before .before .before .before .before .before .pre .0 .space))
+slice-read-space : tie.Need-slice-read-space
+slice-read-space c =
+    let at-pre = c .before .before .before .pre in
+    omega (arith, at-pre .0 .indexed .space, at-pre .1 .1)
+
+slice-write-space-2 : tie.Need-slice-write-space-2
+slice-write-space-2 c =
+    let at-pre = c .before .before .before .pre in
+    simp length-set (omega (arith, at-pre .0 .indexed .space, at-pre .1 .1))
 
 returns : tie.Need-returns
-returns c = rw (c .before .slot .ensures .0) (indexed-more _ _ _ _ (c .before .before .before .before .before .before .pre .0) (c .before .before .before .before .before .before .pre .1 .0) (c .before .before .before .before .before .before .pre .1 .1) (c .before .before .before .before .before .before .pre .1 .2))
+returns c =
+    let at-pre = c .before .before .before .pre in
+    prepared-more _ _ _ (at-pre .0) (at-pre .1 .0) (at-pre .1 .1)
 
 pub enter-spec : {M : Type 1} → statement M
 enter-spec =
@@ -24,16 +33,19 @@ enter-spec =
     (λ c. search needs)
     (λ c. search needs)
     (λ c. search needs)
-    (λ c κs. search needs)
     (λ c. search needs)
     (λ c. search needs)
     (λ c. search needs)
     (λ c. search needs)
     (λ c. search needs)
+    slice-read-space
     (λ c. search needs)
     (λ c. search needs)
     (λ c. search needs)
+    (λ c. omega (arith, c .before .before .before .pre .0 .indexed .space))
     (λ c. search needs)
-    slice-write-index-2
+    (λ c. search needs)
+    (λ c. search needs)
+    slice-write-space-2
     (λ c. search needs)
     returns)

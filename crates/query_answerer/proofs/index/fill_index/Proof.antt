@@ -1,34 +1,28 @@
 -- `fill_index` meets its contract. The invariant: the index holds the first k transitions.
 use mathlib.Core.Path.{_≡_, refl, _∙_}
-use Prim.Native.Nat.{_/_, _≤_, _-_}
+use Prim.Native.Nat.{_≤_, _-_}
 use native.Mathlib.Omega.{arith}
 use borrow.Author.Needs.{needs}
 use lib.ListN.{length}
-use Rattle.query_simulation.specs.TransitionIndex.{Indexed}
-use Rattle.query_simulation.specs.TransitionIndexLaws.{indexed-none}
+use Rattle.query_simulation.specs.Transitions.{transition-count}
+use Rattle.query_simulation.specs.TransitionIndex.{Prepared}
 use Rattle.query_answerer.proofs.index.fill_index.Statement.{statement}
 use Rattle.query_answerer.proofs.index.fill_index.Tie as tie
 
 abbrev Inv-loop : tie.InvT-loop
-Inv-loop moves room index₀ count k₀ index k = (k ≤ count) × ((length index ≡ length index₀) × Indexed room moves index k)
+Inv-loop moves room space₀ count k₀ space k = (k ≤ count) × ((length space ≡ length space₀) × Prepared room 1 moves k space)
 
 abbrev μ-loop : tie.MeasureT-loop
-μ-loop moves room index₀ count k₀ index k = count - k
-
-loop-holds : tie.Need-loop-holds Inv-loop μ-loop
-loop-holds c = (omega arith, (refl, indexed-none _ _ _ (c .before .before .pre .1)))
+μ-loop moves room space₀ count k₀ space k = count - k
 
 enter-requires : tie.Need-enter-requires Inv-loop μ-loop
-enter-requires c κs = (c .before .before .loop .inv .1 .1, (c .before .loop-test .taken, c .before .before .before .before .before .pre .0 .from-fits (c .before .before .loop .k) (c .before .loop-test .taken), c .before .before .before .before .before .pre .0 .to-fits (c .before .before .loop .k) (c .before .loop-test .taken)))
+enter-requires c κs = (c .before .before .loop .inv .1 .1, (c .before .loop-test .taken, c .before .before .before .before .before .pre .0 (c .before .before .loop .k) (c .before .loop-test .taken)))
 
 loop-again : tie.Need-loop-again Inv-loop μ-loop
-loop-again c = (omega (arith, c .before .before .before .before .loop-test .taken), (c .before .index .given ∙ c .before .before .before .before .before .loop .inv .1 .0, c .before .before .enter .ensures))
-
-same-length : tie.Need-same-length Inv-loop μ-loop
-same-length c = c .before .loop .inv .1 .0
+loop-again c = (omega (arith, c .before .before .before .before .loop-test .taken), (c .before .space .given ∙ c .before .before .before .before .before .loop .inv .1 .0, c .before .before .enter .ensures))
 
 returns : tie.Need-returns Inv-loop μ-loop
-returns c = let e : c .before .loop .k ≡ length (c .before .before .before .before .args .moves .now) / 3 = omega (arith, c .before .loop .inv .0, c .loop-test .left) in rw e at (c .before .loop .inv .1 .1)
+returns c = let e : c .before .loop .k ≡ transition-count (c .before .before .before .before .args .moves .now) = omega (arith, c .before .loop .inv .0, c .loop-test .left) in rw e at (c .before .loop .inv .1 .1)
 
 pub fill-index-spec : {M : Type 1} → statement M
 fill-index-spec =
@@ -36,10 +30,10 @@ fill-index-spec =
     (tie.spec
     Inv-loop
     μ-loop
-    loop-holds
+    (λ c. (omega arith, (refl, c .before .before .pre .1)))
     enter-requires
     (λ c. search needs)
     (λ c. search needs)
     loop-again
-    same-length
+    (λ c. c .before .loop .inv .1 .0)
     returns)

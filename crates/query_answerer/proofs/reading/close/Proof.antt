@@ -1,44 +1,52 @@
 -- `close` meets its contract. The invariant: the silent transitions of the first i members lead to members.
 use mathlib.Core.Path.{_≡_}
-use Prim.Native.Nat.{_≤_, _-_}
+use Prim.Native.Nat.{_≤_, _+_, _-_}
 use native.Mathlib.Omega.{arith}
 use Rattle.query_simulation.specs.Reading.{Closing}
 use Rattle.query_simulation.specs.ReadingLaws.{closing-start, closing-more}
+use Rattle.query_simulation.specs.TransitionIndexLaws.{indexed-behind}
 use Rattle.query_answerer.proofs.reading.close.Statement.{statement}
 use Rattle.query_answerer.proofs.reading.close.Tie as tie
 
 abbrev Inv-loop : tie.InvT-loop
-Inv-loop moves index room states₀ stamp count all₀ i₀ states all i = (i ≤ all) × Closing moves room stamp i states₀ count states all
+Inv-loop moves room space₀ list stamp count all₀ i₀ space all i = (i ≤ all) × Closing moves room stamp list i space₀ count space all
 
 abbrev μ-loop : tie.MeasureT-loop
-μ-loop moves index room states₀ stamp count all₀ i₀ states all i = room - i
+μ-loop moves room space₀ list stamp count all₀ i₀ space all i = room - i
 
-loop-holds : tie.Need-loop-holds Inv-loop μ-loop
-loop-holds c = (omega arith, closing-start _ _ _ _ _ (c .before .before .before .pre .1))
+add-slot : tie.Need-add-slot Inv-loop μ-loop
+add-slot c = omega (arith, c .before .loop .inv .1 .added .good .members, c .loop-test .taken)
 
-mul-from : tie.Need-mul-from Inv-loop μ-loop
-mul-from c = omega (arith, c .before .loop .inv .1 .added .good .members .few, c .before .before .before .before .before .pre .0 .few, c .loop-test .taken)
+mul-slot : tie.Need-mul-slot Inv-loop μ-loop
+mul-slot c = omega (arith, c .before .loop .inv .1 .added .good .members, c .loop-test .taken)
 
-slice-read-from : tie.Need-slice-read-from Inv-loop μ-loop
-slice-read-from c = omega (arith, c .before .before .loop .inv .1 .added .good .members .few, c .before .before .loop .inv .1 .added .good .members .size, c .before .loop-test .taken)
+slice-read-slot : tie.Need-slice-read-slot Inv-loop μ-loop
+slice-read-slot c = omega (arith, c .before .before .loop .inv .1 .added .good .members, c .before .loop-test .taken)
 
-cast-from : tie.Need-cast-from Inv-loop μ-loop
-cast-from c = omega (arith, (c .slice-known2 .given) (c .before .before .loop .i))
+cast-slot : tie.Need-cast-slot Inv-loop μ-loop
+cast-slot c = omega (arith, c .slice-known2 .given (c .before .before .before .before .before .args .list + c .before .before .loop .i))
+
+mul-slot-2 : tie.Need-mul-slot-2 Inv-loop μ-loop
+mul-slot-2 c = omega (arith, c .slice-known2 .given (c .before .before .before .before .before .args .list + c .before .before .loop .i))
+
+add-slot-2 : tie.Need-add-slot-2 Inv-loop μ-loop
+add-slot-2 c = omega (arith, c .slice-known2 .given (c .before .before .before .before .before .args .list + c .before .before .loop .i))
 
 spread-requires : tie.Need-spread-requires Inv-loop μ-loop
-spread-requires c κs = (c .before .before .before .before .before .before .before .pre .0, (c .before .before .before .loop .inv .1 .added .good .members .below (c .before .before .before .loop .i) (c .before .before .loop-test .taken), c .before .before .before .loop .inv .1 .added .good))
+spread-requires c κs =
+    let at-loop = c .before .before .before .loop in
+    (record { good = at-loop .inv .1 .added .good; indexed = indexed-behind (at-loop .inv .1 .added .behind) (c .before .before .before .before .before .before .pre .indexed) }, omega (arith, at-loop .inv .1 .added .good .members .below (at-loop .i) (c .before .before .loop-test .taken)))
 
 add-i : tie.Need-add-i Inv-loop μ-loop
-add-i c = omega (arith, c .before .before .before .before .before .before .loop .inv .1 .added .good .members .few, c .before .before .before .before .before .before .before .before .before .before .pre .0 .few, c .before .before .before .before .before .loop-test .taken)
+add-i c = omega (arith, c .before .before .before .before .before .before .loop .inv .1 .added .good .members, c .before .before .before .before .before .loop-test .taken)
 
 loop-less : tie.Need-loop-less Inv-loop μ-loop
-loop-less c = omega (arith, c .before .before .before .before .before .before .loop .inv .1 .added .good .members .few, c .before .before .before .before .before .loop-test .taken)
+loop-less c = omega (arith, c .before .before .before .before .before .before .loop .inv .1 .added .good .members, c .before .before .before .before .before .loop-test .taken)
 
 loop-again : tie.Need-loop-again Inv-loop μ-loop
-loop-again c = (omega (arith, c .before .before .spread .ensures .added .grows, c .before .before .before .before .before .loop-test .taken), closing-more _ _ _ _ _ _ _ _ (c .before .before .before .before .before .before .loop .inv .1) (c .before .before .before .before .before .loop-test .taken) _ _ (c .before .before .spread .ensures))
-
-same-length : tie.Need-same-length Inv-loop μ-loop
-same-length c = omega (arith, c .before .loop .inv .1 .added .good .members .size, c .before .before .before .before .before .pre .1 .members .size)
+loop-again c =
+    let at-loop-test = c .before .before .before .before .before .loop-test in
+    (omega (arith, c .before .before .spread .ensures .added .grows, at-loop-test .taken), closing-more (c .before .before .before .before .before .before .loop .inv .1) (at-loop-test .taken) (c .before .before .spread .ensures))
 
 returns : tie.Need-returns Inv-loop μ-loop
 returns c = let e : c .before .loop .i ≡ c .before .loop .all = omega (arith, c .before .loop .inv .0, c .loop-test .left) in rw e at (c .before .loop .inv .1)
@@ -49,13 +57,16 @@ close-spec =
     (tie.spec
     Inv-loop
     μ-loop
-    loop-holds
-    mul-from
-    slice-read-from
-    cast-from
+    (λ c. (omega arith, closing-start (c .before .before .pre .good)))
+    add-slot
+    mul-slot
+    slice-read-slot
+    cast-slot
+    mul-slot-2
+    add-slot-2
     spread-requires
     add-i
     loop-less
     loop-again
-    same-length
+    (λ c. c .before .loop .inv .1 .added .behind .same)
     returns)
