@@ -3,8 +3,8 @@
 // transition, and at 5 room + k the last one before transition k in its list.
 ghost use mathlib.Core.Bool.{true};
 ghost use mathlib.Core.Path.{_≡_};
-ghost use Prim.Native.Nat.{_+_, _<_, _≤_};
-ghost use Rattle.query_simulation.specs.Transitions.{transition-count, Fits, Fit, Small};
+ghost use Prim.Native.Nat.{_≤_};
+ghost use Rattle.query_simulation.specs.Transitions.{transition-count, Fit, Small};
 ghost use Rattle.query_simulation.specs.TransitionIndex.{Prepared};
 
 // Enters every transition, in one pass, into an index whose lists are empty.
@@ -16,22 +16,12 @@ pub(crate) fn fill_index(moves: &[u16], room: usize, space: &mut [u16])
     let count = moves.len() / 3;
     let mut k = 0;
     while k < count {
-        enter(moves, room, space, k);
+        let silent = moves[3 * k + 1] / 128;
+        let list = 3 * room + (2 * moves[3 * k] as usize + silent as usize);
+        space[5 * room + k] = space[list];
         k += 1;
+        space[list] = k as u16;
     }
-}
-
-// Enters transition k after those before it.
-fn enter(moves: &[u16], room: usize, space: &mut [u16], k: usize)
-    requires { ⌜ Prepared room 1 (now moves) k (now space) ⌝ }
-    requires { ⌜ (k < transition-count (now moves)) × Fits room (now moves) k ⌝ }
-    ensures { λ _. ⌜ Prepared room 1 (now (moves .entry)) (k + 1) (now (space .exit)) ⌝ }
-{
-    let place = 3 * k;
-    let silent = moves[place + 1] / 128;
-    let list = 3 * room + (2 * moves[place] as usize + silent as usize);
-    space[5 * room + k] = space[list];
-    space[list] = (k + 1) as u16;
 }
 
 // Whether there are at most 192 transitions, and their states and the next one after `head` are below 64.
