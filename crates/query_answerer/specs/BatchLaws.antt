@@ -13,7 +13,7 @@ use Rattle.words.specs.WordLaws.{word-drop}
 use Rattle.base.specs.Result.Result.{refused, ok}
 use Rattle.roles.specs.Role.{name}
 use Rattle.query_causes.specs.Query.{tables-fit, question, query, Accepts, Answered}
-use Rattle.query_causes.specs.Query.Answered.{refuses, yes, no}
+use Rattle.base.specs.Decision.Decision.{refuses, yes, no}
 use Rattle.query_causes.specs.Input.{links-of, Broken}
 use Rattle.query_checker.specs.Question.{cause-of}
 use Rattle.query_checker.specs.declared.refusal.QueryRefusal.{QueryRefusal}
