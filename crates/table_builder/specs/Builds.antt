@@ -1,8 +1,9 @@
 -- What a build says and writes.
-use mathlib.Core.Bool.{Bool, true, false}
+use mathlib.Core.Bool.{cond, _&&_}
 use mathlib.Core.List.{List}
 use mathlib.Core.Path.{_≡_}
-use Prim.Native.Nat.{ℕ, _*_, _<_, _≤_}
+use Prim.Native.Nat.{ℕ, _*_, _≤_}
+use lib.Dec.{leb}
 use lib.ListN.{length}
 use Rattle.roles.specs.Rule.{Book}
 use Rattle.base.specs.Result.{Result, map-result}
@@ -13,7 +14,6 @@ use Rattle.rule_index.specs.RuleIndex.{Indexed}
 use Rattle.rule_index.specs.Indexes.{Indexes}
 use Rattle.book_causes.specs.Accepted.{states-of, count-of, heads-of, moves-of, built, written}
 use Rattle.refusals.specs.Refusal.{cause-of, value-of}
-use Rattle.refusals.specs.declared.refusal.Refusal.{Refusal}
 use Rattle.refusals.specs.declared.refusal.Refusal.the-variants.{States, Transitions, Short}
 use Rattle.table_builder.specs.Lay.{Enough}
 use Rattle.table_builder.specs.declared.Counts.{Counts}
@@ -47,21 +47,14 @@ pub record Prepared (s ix : List ℕ) (names : ℕ) : Type 0 where
   pub few : names ≤ 64
   pub levels : Enough ix names (book .names)
 
--- causes 9 to 11 of tables that end at a place: all are passed; and a refusal is the first that is not
-pub record Fitting (names : ℕ) (end : Place) (h m : ℕ) : Type 0 where
-  pub states : end .state ≤ 2048
-  pub transitions : end .count ≤ 5120
-  pub heads : names ≤ h
-  pub moves : 3 * end .count ≤ m
-
-abbrev pub Decides : Type 0 → Bool → Type 0
-Decides A true = A
-Decides A false = A → ⊥
-
-pub data Exceeds (end : Place) : Refusal → Type 0 where
-  states : 2048 < end .state → Exceeds end States
-  transitions : end .state ≤ 2048 → 5120 < end .count → Exceeds end Transitions
-  short : end .state ≤ 2048 → end .count ≤ 5120 → Exceeds end Short
+-- causes 9 to 11, in this order, of tables of so many names that end at a place: the first that refuses them, or their counts
+abbrev pub settled : (names : ℕ) → Place → (heads moves : ℕ) → Outcome
+settled names end heads moves =
+    cond (leb (end .state) 2048)
+    (cond (leb (end .count) 5120)
+    (cond (leb names heads && leb (3 * end .count) moves) (Built (record { names = names; states = end .state; transitions = end .count })) (Refused Short))
+    (Refused Transitions))
+    (Refused States)
 
 -- the names that have been built
 abbrev pub names-in : Outcome → ℕ

@@ -1,16 +1,16 @@
 -- From what was counted and then laid to what a build promises.
-use mathlib.Core.Bool.{false, _&&_}
+use mathlib.Core.Bool.{Bool, true, false, cond, _&&_}
 use mathlib.Core.List.{List, _++_}
 use mathlib.Core.Logic.{_⊎_, inl, inr}
 use mathlib.Core.Path.{_≡_, refl, sym, ap, _∙_, subst}
 use Prim.Native.Nat.{ℕ, _*_, _<_, _≤_}
 use native.Mathlib.Nat.{zero-add}
 use native.Mathlib.Omega.{arith}
-use borrow.Author.Tests.{le-leb, lt-leb}
+use borrow.Author.Tests.{leb-true, leb-false}
 use lib.Dec.{leb}
 use lib.ListN.{length, drop}
 use lib.Seq.{sets, sets-eq}
-use Rattle.base.specs.Truth.{lt-or-le}
+use Rattle.base.specs.Truth.{and-left, and-right, lt-or-le}
 use Rattle.roles.specs.Rule.{Book}
 use Rattle.base.specs.Result.{Result, map-result}
 use Rattle.base.specs.Result.Result.{refused, ok}
@@ -28,7 +28,7 @@ use Rattle.table_builder.specs.declared.Counts.{Counts}
 use Rattle.table_builder.specs.declared.Outcome.the-variants.{Built, Refused}
 use Rattle.table_builder.specs.declared.lay.Place.{Place}
 use Rattle.table_builder.specs.Lay.{Counted, Roots}
-use Rattle.table_builder.specs.Builds.{counts-of, says, Answers, Prepared, Fitting, Exceeds, Builds}
+use Rattle.table_builder.specs.Builds.{counts-of, says, Answers, Prepared, settled, Builds}
 
 -- a refusal changes nothing
 pub builds-refused : (s h m : List ℕ) (x : Refusal) → Answers s (length h) (length m) (Refused x) → Builds s h m h m (Refused x)
@@ -41,6 +41,23 @@ builds-refused s h m x e = by-result (built s (length h) (length m)) refl e
 -- numbers stored from the front on are the new numbers over the old
 sets-over : (new old : List ℕ) → length new ≤ length old → sets old 0 new ≡ over new old
 sets-over new old h = sets-eq new old 0 (rw zero-add h) ∙ ap (λ (k : ℕ). new ++ drop k old) (zero-add (length new))
+
+-- what each check of causes 9 to 11 settles
+module _ (names : ℕ) (end : Place) (heads moves : ℕ) where
+  pub settled-states : leb (end .state) 2048 ≡ false → Refused States ≡ settled names end heads moves
+  settled-states h = rw h refl
+
+  module _ (states : leb (end .state) 2048 ≡ true) where
+    pub settled-transitions : leb (end .count) 5120 ≡ false → Refused Transitions ≡ settled names end heads moves
+    settled-transitions h = rw (states, h) refl
+
+    module _ (transitions : leb (end .count) 5120 ≡ true) where
+      pub settled-short : (leb names heads && leb (3 * end .count) moves) ≡ false → Refused Short ≡ settled names end heads moves
+      settled-short h = rw (states, transitions, h) refl
+
+      pub settled-built : (leb names heads && leb (3 * end .count) moves) ≡ true
+          → Built (record { names = names; states = end .state; transitions = end .count }) ≡ settled names end heads moves
+      settled-built h = rw (states, transitions, h) refl
 
 module _ (s ix : List ℕ) (names : ℕ) (p : Prepared s ix names) where
   few : states-of (p .book) ≤ 2048 → count-of (p .book) ≤ 5120
@@ -80,26 +97,33 @@ module _ (s ix : List ℕ) (names : ℕ) (p : Prepared s ix names) where
         accepts = accepted-ok s (p .book) (p .ordered) whole (rw (← same-count) short)
 
         -- cause 11
-        judged-short : (Fitting names r heads moves → ⊥) → Answers s heads moves (Refused Short)
-        judged-short d = rw (built-short s heads moves (p .book) accepts (rw (← same-count, ← p .same) (by-heads (lt-or-le heads names)))) refl
-          where
-            by-moves : names ≤ heads → (moves < 3 * r .count) ⊎ (3 * r .count ≤ moves) → (leb names heads && leb (3 * r .count) moves) ≡ false
-            by-moves h (inl k) = rw (le-leb names heads h, lt-leb (3 * r .count) moves k) refl
-            by-moves h (inr k) = absurd (d (record { states = small; transitions = short; heads = h; moves = k }))
+        judged-short : (leb names heads && leb (3 * r .count) moves) ≡ false → Answers s heads moves (Refused Short)
+        judged-short h = rw (built-short s heads moves (p .book) accepts (rw (← same-count, ← p .same) h)) refl
 
-            by-heads : (heads < names) ⊎ (names ≤ heads) → (leb names heads && leb (3 * r .count) moves) ≡ false
-            by-heads (inl h) = rw (lt-leb names heads h) refl
-            by-heads (inr h) = by-moves h (lt-or-le moves (3 * r .count))
+        judged-built : (leb names heads && leb (3 * r .count) moves) ≡ true
+            → Answers s heads moves (Built (record { names = names; states = r .state; transitions = r .count }))
+        judged-built h =
+            let enough = leb-true names heads (and-left (leb names heads) (leb (3 * r .count) moves) h) in
+            let room = leb-true (3 * r .count) moves (and-right (leb names heads) (leb (3 * r .count) moves) h) in
+            rw (accepted-built s heads moves (p .book) accepts (rw (← p .same) enough) (rw (← same-count) room), p .same, own .within whole, same-count) refl
 
-    pub judged-built : Fitting names r heads moves → Answers s heads moves (Built (record { names = names; states = r .state; transitions = r .count }))
-    judged-built a =
-        let count = same-count (a .states) in
-        rw (accepted-built s heads moves (p .book) (accepts (a .states) (a .transitions)) (rw (← p .same) (a .heads)) (rw (← count) (a .moves)), p .same, own .within (whole (a .states)), count) refl
+    pub judged : Answers s heads moves (settled names r heads moves)
+    judged = by-states (leb (r .state) 2048) refl
+      where
+        by-lent : (small : r .state ≤ 2048) → r .count ≤ 5120 → (t : Bool) → (leb names heads && leb (3 * r .count) moves) ≡ t
+            → Answers s heads moves (cond t (Built (record { names = names; states = r .state; transitions = r .count })) (Refused Short))
+        by-lent small short true h = judged-built small short h
+        by-lent small short false h = judged-short small short h
 
-    pub judged-refused : (x : Refusal) → Exceeds r x → (Fitting names r heads moves → ⊥) → Answers s heads moves (Refused x)
-    judged-refused x (Exceeds.states h) d = judged-states h
-    judged-refused x (Exceeds.transitions h k) d = judged-transitions h k
-    judged-refused x (Exceeds.short h k) d = judged-short h k d
+        by-count : r .state ≤ 2048 → (t : Bool) → leb (r .count) 5120 ≡ t
+            → Answers s heads moves (cond t (cond (leb names heads && leb (3 * r .count) moves) (Built (record { names = names; states = r .state; transitions = r .count })) (Refused Short)) (Refused Transitions))
+        by-count small true h = by-lent small (leb-true (r .count) 5120 h) (leb names heads && leb (3 * r .count) moves) refl
+        by-count small false h = judged-transitions small (leb-false (r .count) 5120 h)
+
+        by-states : (t : Bool) → leb (r .state) 2048 ≡ t
+            → Answers s heads moves (cond t (cond (leb (r .count) 5120) (cond (leb names heads && leb (3 * r .count) moves) (Built (record { names = names; states = r .state; transitions = r .count })) (Refused Short)) (Refused Transitions)) (Refused States))
+        by-states true h = by-count (leb-true (r .state) 2048 h) (leb (r .count) 5120) refl
+        by-states false h = judged-states (leb-false (r .state) 2048 h)
 
   -- tables laid in the lent ones are what a build promises
   pub builds-laid : (h m : List ℕ) (c : Counts) → Answers s (length h) (length m) (Built c) → (q : Place) (h′ m′ : List ℕ)

@@ -1,8 +1,11 @@
 // The table builder: causes 1 to 11, and the tables of an accepted book in lent memory.
+ghost use mathlib.Core.Bool.{_&&_};
 ghost use mathlib.Core.List.{List};
 ghost use mathlib.Core.Path.{_≡_};
-ghost use Prim.Native.Nat.{ℕ};
-ghost use Rattle.table_builder.specs.Builds.{Checked, Answers, Prepared, Decides, Fitting, Exceeds, names-in, Builds};
+ghost use Prim.Native.Nat.{ℕ, _*_, _≤_};
+ghost use lib.Dec.{leb};
+ghost use Rattle.refusals.specs.Check.{check};
+ghost use Rattle.table_builder.specs.Builds.{Checked, Answers, Prepared, settled, names-in, Builds};
 
 mod lay;
 mod memo;
@@ -11,6 +14,7 @@ use book_decoder::Verdict;
 use lay::Place;
 use lay::count;
 use lay::roots;
+use refusals::Check;
 use refusals::Refusal;
 
 // How many names, states and transitions the tables have: their numbers are the first `names` heads and the first 3 `transitions` moves.
@@ -63,49 +67,63 @@ fn judge(index: &[u16], names: usize, heads: usize, moves: usize) -> Outcome
     requires { ⌜ ((s : List ℕ) × Prepared s (now index) names) ⌝ }
     ensures { λ r. ⌜ ((s : List ℕ) → Prepared s (now (index .entry)) names → Answers s heads moves r) ⌝ }
 {
-    let end = count(index, names);
-    if fits(names, end, heads, moves) {
-        return Outcome::Built(Counts {
-            names: names,
-            states: end.state,
-            transitions: end.count,
-        });
-    }
-    Outcome::Refused(excess(end))
+    settle(names, count(index, names), heads, moves)
 }
 
-// Whether tables that end at a place pass causes 9 to 11: at most 2,048 states, at most 5,120 transitions, and so many heads and moves are lent
-// as the names and transitions need.
-fn fits(names: usize, end: Place, heads: usize, moves: usize) -> bool
-    ensures { λ r. ⌜ Decides (Fitting names end heads moves) r ⌝ }
+// Causes 9 to 11 of tables that end at a place, where so many heads and moves are lent.
+fn settle(names: usize, end: Place, heads: usize, moves: usize) -> Outcome
+    ensures { λ r. ⌜ r ≡ settled names end heads moves ⌝ }
 {
+    let states = end.state;
     let transitions = end.count;
-    if 2048 < end.state {
-        return false;
+    let Check::Passed = few_states(states) else {
+        return Outcome::Refused(Refusal::States);
+    };
+    let Check::Passed = few_transitions(transitions) else {
+        return Outcome::Refused(Refusal::Transitions);
+    };
+    let Check::Passed = long_enough(names, transitions, heads, moves) else {
+        return Outcome::Refused(Refusal::Short);
+    };
+    Outcome::Built(Counts {
+        names: names,
+        states: states,
+        transitions: transitions,
+    })
+}
+
+// Cause 9: at most 2,048 states.
+fn few_states(states: usize) -> Check
+    ensures { λ r. ⌜ r ≡ check (leb states 2048) ⌝ }
+{
+    if 2048 < states {
+        return Check::Failed;
     }
+    Check::Passed
+}
+
+// Cause 10: at most 5,120 transitions.
+fn few_transitions(transitions: usize) -> Check
+    ensures { λ r. ⌜ r ≡ check (leb transitions 5120) ⌝ }
+{
     if 5120 < transitions {
-        return false;
+        return Check::Failed;
     }
+    Check::Passed
+}
+
+// Cause 11: so many heads and moves are lent as the names and transitions need.
+fn long_enough(names: usize, transitions: usize, heads: usize, moves: usize) -> Check
+    requires { ⌜ transitions ≤ 5120 ⌝ }
+    ensures { λ r. ⌜ r ≡ check (leb names heads && leb (3 * transitions) moves) ⌝ }
+{
     if heads < names {
-        return false;
+        return Check::Failed;
     }
     if moves < 3 * transitions {
-        return false;
+        return Check::Failed;
     }
-    true
-}
-
-// The first of causes 9 to 11 that tables which do not pass them all fail.
-fn excess(end: Place) -> Refusal
-    ensures { λ r. ⌜ Exceeds end r ⌝ }
-{
-    if 2048 < end.state {
-        return Refusal::States;
-    }
-    if 5120 < end.count {
-        return Refusal::Transitions;
-    }
-    Refusal::Short
+    Check::Passed
 }
 
 // The number of names to lay: none where the book is refused.
