@@ -17,8 +17,8 @@ use book_cursor::Cursor;
 use book_cursor::Entry;
 use book_cursor::Step;
 pub use book_header::Header;
+use refusals::BookRefusal;
 use refusals::Check;
-use refusals::Refusal;
 pub use verdict::Verdict;
 
 // Causes 1 to 6, in one pass.
@@ -26,17 +26,17 @@ pub fn decode(book: &[u8]) -> Verdict
     ensures { λ r. ⌜ says r ≡ map-result header-of (decode-of (now (book .entry))) ⌝ }
 {
     let Check::Passed = book_header::sized(book, 2568) else {
-        return Verdict::Refused(Refusal::Size);
+        return Verdict::Refused(BookRefusal::Size);
     };
     let Check::Passed = book_header::marked(book) else {
-        return Verdict::Refused(Refusal::Mark);
+        return Verdict::Refused(BookRefusal::Mark);
     };
     let Check::Passed = book_header::versioned(book, 1) else {
-        return Verdict::Refused(Refusal::Version);
+        return Verdict::Refused(BookRefusal::Version);
     };
     let header = book_header::declared(book);
     let Check::Passed = book_header::ranged(header) else {
-        return Verdict::Refused(Refusal::Range);
+        return Verdict::Refused(BookRefusal::Range);
     };
     decode_rules(book, header)
 }
@@ -52,16 +52,16 @@ fn decode_rules(book: &[u8], header: Header) -> Verdict
     let mut number = 0;
     while number < rules {
         let Step::Rule(entry, next) = cursor.step(book) else {
-            return Verdict::Refused(Refusal::Malformed(number));
+            return Verdict::Refused(BookRefusal::Malformed(number));
         };
         let Check::Passed = declared(book, entry, names) else {
-            return Verdict::Refused(Refusal::Undeclared(number));
+            return Verdict::Refused(BookRefusal::Undeclared(number));
         };
         cursor = next;
         number += 1;
     }
     let Check::Passed = ended(book, cursor) else {
-        return Verdict::Refused(Refusal::Malformed(rules));
+        return Verdict::Refused(BookRefusal::Malformed(rules));
     };
     Verdict::WellFormed(header)
 }

@@ -1,9 +1,9 @@
 // What a byte string is.
 use book_header::Header;
-use refusals::Refusal;
+use refusals::BookRefusal;
 
 // A well-formed book with its header, or refused.
 pub enum Verdict {
     WellFormed(Header),
-    Refused(Refusal),
+    Refused(BookRefusal),
 }

@@ -21,8 +21,8 @@ use book_cursor::Entry;
 use book_cursor::Step;
 use book_decoder::Header;
 use book_decoder::Verdict;
+use refusals::BookRefusal;
 use refusals::Check;
-use refusals::Refusal;
 use role_bytes::inverse;
 use role_bytes::is_inverse;
 use role_bytes::name;
@@ -43,7 +43,7 @@ pub(crate) fn distinct(book: &[u8], header: Header) -> Verdict
         };
         let own = key(book, entry);
         let Check::Passed = fresh(&keys, &index, own, later) else {
-            return Verdict::Refused(Refusal::Repeated(later));
+            return Verdict::Refused(BookRefusal::Repeated(later));
         };
         enter(&mut keys, &mut index, own, later);
         cursor = next;

@@ -35,8 +35,8 @@ fn outcome(outcome: Outcome) {
             label(b", transitions ", counts.transitions);
         }
         Outcome::Refused(refusal) => {
-            label(b": refused ", refusals::cause(refusal));
-            label(b" ", refusals::value(refusal));
+            label(b": refused ", refusals::build_cause(refusal));
+            label(b" ", refusals::build_value(refusal));
         }
     }
     line(b"");

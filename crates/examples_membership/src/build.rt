@@ -41,7 +41,7 @@ fn sizes_of(outcome: Outcome) -> Sizes {
             heads: 0,
             moves: 0,
             states: 0,
-            cause: refusals::cause(refusal),
+            cause: refusals::build_cause(refusal),
         },
     }
 }

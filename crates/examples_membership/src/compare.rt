@@ -19,6 +19,6 @@ pub(crate) fn said(answer: Answer) -> u64 {
     match answer {
         Answer::Yes => 1,
         Answer::No => 0,
-        Answer::Refused(refusal) => query_checker::cause(refusal) as u64,
+        Answer::Refused(refusal) => refusals::query_cause(refusal) as u64,
     }
 }

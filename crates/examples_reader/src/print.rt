@@ -20,8 +20,8 @@ pub(crate) fn verdict(text: &[u8], bytes: &[u8]) {
             label(b", rules ", header.rules);
         }
         Verdict::Refused(refusal) => {
-            label(b": refused ", refusals::cause(refusal));
-            label(b" ", refusals::value(refusal));
+            label(b": refused ", refusals::book_cause(refusal));
+            label(b" ", refusals::book_value(refusal));
         }
     }
     io::write_all(1, b"\n");

@@ -24,7 +24,7 @@ use book_decoder::Verdict;
 use masks::absorb;
 use masks::has;
 use masks::reached;
-use refusals::Refusal;
+use refusals::BookRefusal;
 use rule_shapes::Shape;
 use rule_shapes::shape_of;
 
@@ -80,7 +80,7 @@ fn gather(book: &[u8], header: Header, masks: &mut [u64]) -> Verdict
         let start = entry.start;
         let end = start + entry.size;
         let Gathered::Extends = add_rule(&book[start..end], entry.right, masks) else {
-            return Verdict::Refused(Refusal::NoOrder(number));
+            return Verdict::Refused(BookRefusal::NoOrder(number));
         };
         cursor = next;
         number += 1;

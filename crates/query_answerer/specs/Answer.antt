@@ -2,7 +2,7 @@
 use mathlib.Core.Bool.{Bool, true, false}
 use Rattle.base.specs.Result.{Result}
 use Rattle.base.specs.Result.Result.{refused, ok}
-use Rattle.query_checker.specs.Question.{cause-of}
+use Rattle.refusals.specs.QueryRefusals.{query-cause}
 use Rattle.query_answerer.specs.declared.Answer.{Answer}
 use Rattle.query_answerer.specs.declared.Answer.the-variants.{Yes, No, Refused}
 
@@ -10,4 +10,4 @@ use Rattle.query_answerer.specs.declared.Answer.the-variants.{Yes, No, R
 abbrev pub says : Answer → Result Bool
 says Yes = ok true
 says No = ok false
-says (Refused refusal) = refused (cause-of refusal) 0
+says (Refused refusal) = refused (query-cause refusal) 0

@@ -15,9 +15,9 @@ use Rattle.roles.specs.Role.{name}
 use Rattle.query_causes.specs.Query.{tables-fit, question, query, Accepts, Answered}
 use Rattle.base.specs.Decision.Decision.{refuses, yes, no}
 use Rattle.query_causes.specs.Input.{links-of, Broken}
-use Rattle.query_checker.specs.Question.{cause-of}
-use Rattle.query_checker.specs.declared.refusal.QueryRefusal.{QueryRefusal}
-use Rattle.query_checker.specs.declared.refusal.QueryRefusal.the-variants.{Tables, Chain, Role}
+use Rattle.refusals.specs.QueryRefusals.{query-cause}
+use Rattle.refusals.specs.declared.query.QueryRefusal.{QueryRefusal}
+use Rattle.refusals.specs.declared.query.QueryRefusal.the-variants.{Tables, Chain, Role}
 use Rattle.query_simulation.specs.QueryLaws.{query-tables, query-question, named-role, askable}
 use Rattle.query_simulation.specs.Reading.{Readable}
 use Rattle.query_simulation.specs.States.{Unused, Renewed}
@@ -126,12 +126,12 @@ module _ (heads moves q answers : List ℕ) where
     going-broken size found e = going-ends (inr (found .none e))
 
 -- what answering one question gives, each way
-pub small-cause : (x : QueryRefusal) → cause-of x ≤ 14
+pub small-cause : (x : QueryRefusal) → query-cause x ≤ 14
 small-cause Tables = omega arith
 small-cause Chain = omega arith
 small-cause Role = omega arith
 
-refused-told : (heads moves : List ℕ) (r : ℕ) (w : List ℕ) (x : QueryRefusal) → query heads moves r w ≡ refused (cause-of x) 0 → (b : ℕ) → b ≡ cause-of x
+refused-told : (heads moves : List ℕ) (r : ℕ) (w : List ℕ) (x : QueryRefusal) → query heads moves r w ≡ refused (query-cause x) 0 → (b : ℕ) → b ≡ query-cause x
     → Answered heads moves r w (told b)
 refused-told heads moves r w Tables e b d = rw d (refuses 12 0 e)
 refused-told heads moves r w Chain e b d = rw d (refuses 13 0 e)
@@ -186,7 +186,7 @@ module _ {heads moves : List ℕ} {names stamp : ℕ} {space : List ℕ} (ready 
       query-is : query heads moves role chain ≡ question names role chain
       query-is = let f = ready .fit some in rw (f .1) (query-question heads moves role chain (f .0))
 
-      pub asked-refused : (x : QueryRefusal) → question names role chain ≡ refused (cause-of x) 0 → (b : ℕ) → b ≡ cause-of x
+      pub asked-refused : (x : QueryRefusal) → question names role chain ≡ refused (query-cause x) 0 → (b : ℕ) → b ≡ query-cause x
           → Asked heads moves names q read size b (stamp + size) space
       asked-refused x e b d =
           record { answered = refused-told heads moves role chain x (query-is ∙ e) b d; ready = ready-later (stamp + size) (omega arith) }

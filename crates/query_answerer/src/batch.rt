@@ -8,7 +8,7 @@ ghost use Rattle.query_answerer.specs.Batch.{told, WholeSize, Ready, Ask
 use crate::index::fill_index;
 use crate::reading::run;
 use crate::states::renew;
-use query_checker::Question;
+use query_checker::QueryVerdict;
 use refusals::Check;
 use role_bytes::name;
 use words::word;
@@ -103,8 +103,8 @@ fn answer(
     let chain = &input[read + 3..read + size];
     let question = query_checker::check_for(names, role, chain);
     match question {
-        Question::Refused(refusal) => query_checker::cause(refusal) as u8,
-        Question::Fits => {
+        QueryVerdict::Refused(refusal) => refusals::query_cause(refusal) as u8,
+        QueryVerdict::Fits => {
             let head = heads[name(role) as usize] as usize;
             if run(moves, 2048, role, chain, head, stamp, space) {
                 return 1;

@@ -17,9 +17,9 @@ pub use batch::Batch;
 pub use batch::ask_all;
 use index::fill_index;
 use index::is_small;
-use query_checker::QueryRefusal;
-use query_checker::Question;
+use query_checker::QueryVerdict;
 use reading::run;
+use refusals::QueryRefusal;
 use role_bytes::name;
 
 // What a question is answered with.
@@ -38,8 +38,8 @@ pub fn ask(heads: &[u16], moves: &[u16], role: u8, chain: &[u8]) -> Answer
 {
     let question = query_checker::check(heads, moves, role, chain);
     match question {
-        Question::Refused(refusal) => Answer::Refused(refusal),
-        Question::Fits => {
+        QueryVerdict::Refused(refusal) => Answer::Refused(refusal),
+        QueryVerdict::Fits => {
             let head = heads[name(role) as usize] as usize;
             if !accepts(moves, role, chain, head) {
                 return Answer::No;

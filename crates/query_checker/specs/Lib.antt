@@ -1,1 +1,1 @@
-pub mod Question
+pub mod QueryVerdict

@@ -9,8 +9,8 @@ use Rattle.base.specs.Result.{Result}
 use Rattle.base.specs.Result.Result.{refused, ok}
 use Rattle.book_causes.specs.Accepted.{heads-of, moves-of, written}
 use Rattle.query_correctness.specs.Reply.{Replied, posed}
-use Rattle.refusals.specs.Refusal.{cause-of, value-of}
-use Rattle.query_checker.specs.Question.{cause-of as question-cause-of}
+use Rattle.refusals.specs.BuildRefusals.{build-cause, build-value}
+use Rattle.refusals.specs.QueryRefusals.{query-cause}
 use Rattle.query_deriver.specs.declared.Reply.{Reply}
 use Rattle.query_deriver.specs.declared.Reply.the-variants.{Yes, No, Book, Question}
 
@@ -18,8 +18,8 @@ use Rattle.query_deriver.specs.declared.Reply.the-variants.{Yes, No, Boo
 abbrev pub says : Reply → Result Bool
 says Yes = ok true
 says No = ok false
-says (Book refusal) = refused (cause-of refusal) (value-of refusal)
-says (Question refusal) = refused (question-cause-of refusal) 0
+says (Book refusal) = refused (build-cause refusal) (build-value refusal)
+says (Question refusal) = refused (query-cause refusal) 0
 
 -- demand 3, and what the lent tables then hold: those of the book that the question is put to, and where it or the book is refused, what they held
 pub record Replies (s h m : List ℕ) (r : ℕ) (w : Chain) (h′ m′ : List ℕ) (a : Reply) : Type 0 where

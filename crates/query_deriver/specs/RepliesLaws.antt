@@ -14,11 +14,12 @@ use Rattle.query_causes.specs.Query.{question, Answered}
 use Rattle.query_correctness.specs.Reply.{posed}
 use Rattle.query_correctness.specs.Reply.Replied.{refuses, settled}
 use Rattle.query_correctness.specs.ReplyLaws.{decided, posed-fits, posed-refused, replied-refused}
-use Rattle.refusals.specs.declared.refusal.Refusal.{Refusal}
-use Rattle.refusals.specs.Refusal.{cause-of, value-of}
-use Rattle.query_checker.specs.declared.refusal.QueryRefusal.{QueryRefusal}
-use Rattle.query_checker.specs.declared.Question.{Question as Found}
-use Rattle.query_checker.specs.Question.{cause-of as question-cause-of, says as found-says}
+use Rattle.refusals.specs.declared.build.BuildRefusal.{BuildRefusal}
+use Rattle.refusals.specs.BuildRefusals.{build-cause, build-value}
+use Rattle.refusals.specs.declared.query.QueryRefusal.{QueryRefusal}
+use Rattle.query_checker.specs.declared.QueryVerdict.{QueryVerdict as Found}
+use Rattle.refusals.specs.QueryRefusals.{query-cause}
+use Rattle.query_checker.specs.QueryVerdict.{says as found-says}
 use Rattle.query_answerer.specs.declared.Answer.{Answer}
 use Rattle.query_answerer.specs.Answer.{says as answer-says}
 use Rattle.table_builder.specs.declared.Counts.{Counts}
@@ -61,12 +62,12 @@ module _ (s h m h′ m′ : List ℕ) where
     same : built s (length h) (length m) ≡ built s heads moves
     same = rw (i, j) (built-enough a b heads moves f g s)
 
-    pub says-book : (y : Refusal) → Builds s h m h′ m′ (Refused y)
-        → says (Refused-book y) ≡ and-then (built s heads moves) (λ _. refused (question-cause-of x) 0)
+    pub says-book : (y : BuildRefusal) → Builds s h m h′ m′ (Refused y)
+        → says (Refused-book y) ≡ and-then (built s heads moves) (λ _. refused (query-cause x) 0)
     says-book y p = rw (sym same ∙ refused-by s h m h′ m′ y p) refl
 
     pub says-question : (c : Counts) → Builds s h m h′ m′ (Built c)
-        → says (Question x) ≡ and-then (built s heads moves) (λ _. refused (question-cause-of x) 0)
+        → says (Question x) ≡ and-then (built s heads moves) (λ _. refused (query-cause x) 0)
     says-question c p = rw (sym same ∙ own s h m h′ m′ c p .accepts) refl
 
   module _ (r : ℕ) (w : Chain) (q : question (getD s 5 0) r w ≡ ok tt) where
@@ -86,10 +87,10 @@ module _ (s h m h′ m′ : List ℕ) where
           moves = rw put-to (p .moves);
         }
 
-    pub replies-refused : (x : Refusal) → Builds s h m h′ m′ (Refused x) → Replies s h m r w h′ m′ (Refused-book x)
+    pub replies-refused : (x : BuildRefusal) → Builds s h m h′ m′ (Refused x) → Replies s h m r w h′ m′ (Refused-book x)
     replies-refused x p =
         record {
-          answer = refuses (cause-of x) (value-of x) (refused-by s h m h′ m′ x p);
+          answer = refuses (build-cause x) (build-value x) (refused-by s h m h′ m′ x p);
           heads = rw put-to (p .heads);
           moves = rw put-to (p .moves);
         }

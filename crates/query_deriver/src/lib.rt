@@ -7,12 +7,12 @@ ghost use Rattle.base.specs.Result.{and-then};
 ghost use Rattle.base.specs.Result.Result.{refused, ok};
 ghost use Rattle.book_causes.specs.Accepted.{built};
 ghost use Rattle.query_causes.specs.Query.{question, Answered};
-ghost use Rattle.query_checker.specs.Question.{cause-of};
+ghost use Rattle.refusals.specs.QueryRefusals.{query-cause};
 ghost use Rattle.query_deriver.specs.Replies.{says, Replies};
 use query_answerer::Answer;
-use query_checker::QueryRefusal;
-use query_checker::Question;
-use refusals::Refusal;
+use query_checker::QueryVerdict;
+use refusals::BuildRefusal;
+use refusals::QueryRefusal;
 use table_builder::Outcome;
 use text_parts::byte;
 
@@ -23,7 +23,7 @@ pub enum Reply {
     // It is not.
     No,
     // The book is refused, or the tables are lent too short: causes 1 to 11.
-    Book(Refusal),
+    Book(BuildRefusal),
     // The question is refused: causes 13 and 14.
     Question(QueryRefusal),
 }
@@ -37,14 +37,14 @@ pub fn derived(book: &[u8], heads: &mut [u16], moves: &mut [u16], role: u8, chai
     let names = byte(book, 5);
     let question = query_checker::check_for(names, role, chain);
     match question {
-        Question::Refused(refusal) => refuse(book, heads.len(), moves.len(), refusal),
-        Question::Fits => decide(book, heads, moves, role, chain),
+        QueryVerdict::Refused(refusal) => refuse(book, heads.len(), moves.len(), refusal),
+        QueryVerdict::Fits => decide(book, heads, moves, role, chain),
     }
 }
 
 // The reply to a question that is refused: causes 1 to 11 come first. They are judged on tables aside, as long as those lent or as any book needs.
 fn refuse(book: &[u8], heads: usize, moves: usize, refusal: QueryRefusal) -> Reply
-    ensures { λ r. ⌜ says r ≡ and-then (built (now (book .entry)) heads moves) (λ _. refused (cause-of refusal) 0) ⌝ }
+    ensures { λ r. ⌜ says r ≡ and-then (built (now (book .entry)) heads moves) (λ _. refused (query-cause refusal) 0) ⌝ }
 {
     let mut own_heads = [0u16; 64];
     let mut own_moves = [0u16; 15360];

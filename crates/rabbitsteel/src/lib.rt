@@ -5,7 +5,7 @@ ghost use Rattle.book_decoder.specs.Verdict.{says};
 ghost use Rattle.book_format.specs.Format.{read};
 ghost use Rattle.base.specs.Result.{map-result};
 ghost use Rattle.base.specs.Result.Result.{refused};
-ghost use Rattle.refusals.specs.Refusal.{cause-of, value-of};
+ghost use Rattle.refusals.specs.BuildRefusals.{build-cause, build-value};
 ghost use Rattle.query_answerer.specs.Answer.{says as answer-says};
 ghost use Rattle.query_deriver.specs.Replies.{says as reply-says};
 ghost use Rattle.table_builder.specs.Builds.{says as outcome-says};
@@ -13,7 +13,7 @@ ghost use Rattle.rabbitsteel.specs.Tells.{Tells, TellsBuild, TellsAnswer
 use book_decoder::Verdict;
 use query_answerer::Answer;
 use query_deriver::Reply;
-use refusals::Refusal;
+use refusals::BuildRefusal;
 use table_builder::Outcome;
 
 // What a call tells: the number of the cause, or 0, and two numbers.
@@ -56,17 +56,17 @@ fn tell_verdict(verdict: Verdict) -> Told
             first: header.names as u64,
             second: header.rules as u64,
         },
-        Verdict::Refused(refusal) => tell_refusal(refusal),
+        Verdict::Refused(refusal) => tell_refusal(BuildRefusal::Book(refusal)),
     }
 }
 
 // The cause of a refusal, and the value beside it.
-fn tell_refusal(refusal: Refusal) -> Told
-    ensures { λ r. ⌜ Tells (refused (cause-of refusal) (value-of refusal)) (r .cause) (r .first) (r .second) ⌝ }
+fn tell_refusal(refusal: BuildRefusal) -> Told
+    ensures { λ r. ⌜ Tells (refused (build-cause refusal) (build-value refusal)) (r .cause) (r .first) (r .second) ⌝ }
 {
     Told {
-        cause: refusals::cause(refusal) as u64,
-        first: refusals::value(refusal) as u64,
+        cause: refusals::build_cause(refusal) as u64,
+        first: refusals::build_value(refusal) as u64,
         second: 0,
     }
 }
@@ -134,7 +134,7 @@ fn tell_answer(answer: Answer) -> Told
             second: 0,
         },
         Answer::Refused(refusal) => Told {
-            cause: query_checker::cause(refusal) as u64,
+            cause: refusals::query_cause(refusal) as u64,
             first: 0,
             second: 0,
         },
@@ -176,7 +176,7 @@ fn tell_reply(reply: Reply) -> Told
         },
         Reply::Book(refusal) => tell_refusal(refusal),
         Reply::Question(refusal) => Told {
-            cause: query_checker::cause(refusal) as u64,
+            cause: refusals::query_cause(refusal) as u64,
             first: 0,
             second: 0,
         },

@@ -1,2 +1,4 @@
-pub mod Refusal
+pub mod BookRefusals
+pub mod BuildRefusals
+pub mod QueryRefusals
 pub mod Check

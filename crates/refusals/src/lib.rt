@@ -1,8 +1,15 @@
-// Why a book is refused, and what a check finds.
+// Why a call refuses what it is given, an enum for each kind of call, with document 01's number and value; and what a check finds.
+mod book;
+mod build;
 mod check;
-mod refusal;
+mod query;
 
+pub use book::BookRefusal;
+pub use book::book_cause;
+pub use book::book_value;
+pub use build::BuildRefusal;
+pub use build::build_cause;
+pub use build::build_value;
 pub use check::Check;
-pub use refusal::Refusal;
-pub use refusal::cause;
-pub use refusal::value;
+pub use query::QueryRefusal;
+pub use query::query_cause;

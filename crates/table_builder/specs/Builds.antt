@@ -13,8 +13,8 @@ use Rattle.book_decoder.specs.declared.verdict.Verdict.{Verdict}
 use Rattle.rule_index.specs.RuleIndex.{Indexed}
 use Rattle.rule_index.specs.Indexes.{Indexes}
 use Rattle.book_causes.specs.Accepted.{states-of, count-of, heads-of, moves-of, built, written}
-use Rattle.refusals.specs.Refusal.{cause-of, value-of}
-use Rattle.refusals.specs.declared.refusal.Refusal.the-variants.{States, Transitions, Short}
+use Rattle.refusals.specs.BuildRefusals.{build-cause, build-value}
+use Rattle.refusals.specs.declared.build.BuildRefusal.the-variants.{States, Transitions, Short}
 use Rattle.table_builder.specs.Lay.{Enough}
 use Rattle.table_builder.specs.declared.Counts.{Counts}
 use Rattle.table_builder.specs.declared.lay.Place.{Place}
@@ -28,7 +28,7 @@ counts-of b = record { names = b .names; states = states-of b; transitions = cou
 -- a build by its counts, or a refusal by its number and value
 abbrev pub says : Outcome → Result Counts
 says (Built counts) = ok counts
-says (Refused refusal) = refused (cause-of refusal) (value-of refusal)
+says (Refused refusal) = refused (build-cause refusal) (build-value refusal)
 
 -- the answer of causes 1 to 11 where so many heads and moves are lent
 abbrev pub Answers : List ℕ → (heads moves : ℕ) → Outcome → Type 0

@@ -13,11 +13,12 @@ use Rattle.book_causes.specs.Accepted.{built}
 use Rattle.book_causes.specs.Ordered as Ordered
 use Rattle.book_causes.specs.OrderedRun.{ordered-read}
 use Rattle.book_causes.specs.AcceptedLaws.{accepted-refused, accepted-passed, built-refused, built-accepted}
-use Rattle.refusals.specs.declared.refusal.Refusal.{Refusal}
+use Rattle.refusals.specs.declared.book.BookRefusal.{BookRefusal}
+use Rattle.refusals.specs.declared.build.BuildRefusal.the-variants as BuildRefusal
 use Rattle.book_header.specs.declared.Header.{Header}
 use Rattle.book_decoder.specs.declared.verdict.Verdict.{Verdict}
 use Rattle.book_decoder.specs.declared.verdict.Verdict.the-variants.{WellFormed, Refused}
-use Rattle.refusals.specs.Refusal.{cause-of, value-of}
+use Rattle.refusals.specs.BookRefusals.{book-cause, book-value}
 use Rattle.book_decoder.specs.Verdict.{header-of, says}
 use Rattle.rule_index.specs.RuleIndex.{Indexed}
 use Rattle.table_builder.specs.Lay.{Rooted}
@@ -51,17 +52,17 @@ module _ (s ix : List ℕ) (v : Verdict) (a : Checked s ix v) where
       by-result (ok b) f g = prepare b f (h .names) (ap (λ (x : Header). x .names) (ok-injective h (header-of b) (g ∙ ap (map-result header-of) f)))
 
   -- a book that is refused
-  pub refused-answers : (heads moves : ℕ) (r : Refusal) → v ≡ Refused r → Answers s heads moves (outcome.Refused r)
+  pub refused-answers : (heads moves : ℕ) (r : BookRefusal) → v ≡ Refused r → Answers s heads moves (outcome.Refused (BuildRefusal.Book r))
   refused-answers heads moves r e =
-      rw (built-refused s heads moves (cause-of r) (value-of r)
-      (accepted-refused s (cause-of r) (value-of r) (by-result (Ordered.ordered s) refl (sym (ap says e) ∙ a .2 .verdict)))) refl
+      rw (built-refused s heads moves (book-cause r) (book-value r)
+      (accepted-refused s (book-cause r) (book-value r) (by-result (Ordered.ordered s) refl (sym (ap says e) ∙ a .2 .verdict)))) refl
     where
-      by-result : (x : Result Book) → Ordered.ordered s ≡ x → refused (cause-of r) (value-of r) ≡ map-result header-of (Ordered.ordered s)
-          → Ordered.ordered s ≡ refused (cause-of r) (value-of r)
+      by-result : (x : Result Book) → Ordered.ordered s ≡ x → refused (book-cause r) (book-value r) ≡ map-result header-of (Ordered.ordered s)
+          → Ordered.ordered s ≡ refused (book-cause r) (book-value r)
       by-result (refused c v) f g =
           let same = g ∙ ap (map-result header-of) f in
           cc (f, same)
-      by-result (ok b) f g = absurd (refused-ok (cause-of r) (value-of r) (header-of b) (g ∙ ap (map-result header-of) f))
+      by-result (ok b) f g = absurd (refused-ok (book-cause r) (book-value r) (header-of b) (g ∙ ap (map-result header-of) f))
 
   -- a book that is built, by its counts
   module _ (heads moves : ℕ) where

@@ -21,9 +21,9 @@ use Rattle.book_causes.specs.AcceptedLaws.{enough-heads, enough-moves}
 use Rattle.rule_index.specs.RuleIndex.{level-in}
 use Rattle.table_laying.specs.Pieces.{length-numbers, length-roots}
 use Rattle.table_sizes.specs.Sizes.{few-transitions}
-use Rattle.refusals.specs.declared.refusal.Refusal.{Refusal}
-use Rattle.refusals.specs.declared.refusal.Refusal.the-variants.{States, Transitions, Short}
-use Rattle.refusals.specs.Refusal.{cause-of, value-of}
+use Rattle.refusals.specs.declared.build.BuildRefusal.{BuildRefusal}
+use Rattle.refusals.specs.declared.build.BuildRefusal.the-variants.{States, Transitions, Short}
+use Rattle.refusals.specs.BuildRefusals.{build-cause, build-value}
 use Rattle.table_builder.specs.declared.Counts.{Counts}
 use Rattle.table_builder.specs.declared.Outcome.the-variants.{Built, Refused}
 use Rattle.table_builder.specs.declared.lay.Place.{Place}
@@ -31,12 +31,12 @@ use Rattle.table_builder.specs.Lay.{Counted, Roots}
 use Rattle.table_builder.specs.Builds.{counts-of, says, Answers, Prepared, settled, Builds}
 
 -- a refusal changes nothing
-pub builds-refused : (s h m : List ℕ) (x : Refusal) → Answers s (length h) (length m) (Refused x) → Builds s h m h m (Refused x)
+pub builds-refused : (s h m : List ℕ) (x : BuildRefusal) → Answers s (length h) (length m) (Refused x) → Builds s h m h m (Refused x)
 builds-refused s h m x e = by-result (built s (length h) (length m)) refl e
   where
     by-result : (r : Result Book) → built s (length h) (length m) ≡ r → says (Refused x) ≡ map-result counts-of r → Builds s h m h m (Refused x)
     by-result (refused c v) f g = record { answer = e; heads = rw f refl; moves = rw f refl }
-    by-result (ok b) f g = absurd (refused-ok (cause-of x) (value-of x) (counts-of b) g)
+    by-result (ok b) f g = absurd (refused-ok (build-cause x) (build-value x) (counts-of b) g)
 
 -- numbers stored from the front on are the new numbers over the old
 sets-over : (new old : List ℕ) → length new ≤ length old → sets old 0 new ≡ over new old

@@ -14,8 +14,8 @@ use Rattle.base.specs.ResultLaws.{refused-ok, ok-injective}
 use Rattle.book_causes.specs.Accepted.{count-of, heads-of, moves-of, accepted, built, over}
 use Rattle.book_causes.specs.AcceptedLaws.{accepted-passed, accepted-built, built-accepted, enough-heads, enough-moves}
 use Rattle.table_laying.specs.Pieces.{length-numbers, length-roots}
-use Rattle.refusals.specs.declared.refusal.Refusal.{Refusal}
-use Rattle.refusals.specs.Refusal.{cause-of, value-of}
+use Rattle.refusals.specs.declared.build.BuildRefusal.{BuildRefusal}
+use Rattle.refusals.specs.BuildRefusals.{build-cause, build-value}
 use Rattle.table_builder.specs.declared.Counts.{Counts}
 use Rattle.table_builder.specs.declared.Outcome.{Outcome}
 use Rattle.table_builder.specs.declared.Outcome.the-variants.{Built, Refused}
@@ -97,12 +97,12 @@ module _ (s h m h′ m′ : List ℕ) where
         ∙ over-front (3 * c .transitions) (moves-of (own .book)) m (ap (λ (k : ℕ). 3 * k) count ∙ sym three)
 
   -- a build that is refused says why
-  pub refused-by : (x : Refusal) → Builds s h m h′ m′ (Refused x) → built s (length h) (length m) ≡ refused (cause-of x) (value-of x)
+  pub refused-by : (x : BuildRefusal) → Builds s h m h′ m′ (Refused x) → built s (length h) (length m) ≡ refused (build-cause x) (build-value x)
   refused-by x p = by-result (built s (length h) (length m)) (p .answer)
     where
-      by-result : (t : Result Book) → says (Refused x) ≡ map-result counts-of t → t ≡ refused (cause-of x) (value-of x)
+      by-result : (t : Result Book) → says (Refused x) ≡ map-result counts-of t → t ≡ refused (build-cause x) (build-value x)
       by-result (refused cause value) f = sym (ap (map-result (λ (k : Counts). counted-none)) f)
-      by-result (ok b) f = absurd (refused-ok (cause-of x) (value-of x) (counts-of b) f)
+      by-result (ok b) f = absurd (refused-ok (build-cause x) (build-value x) (counts-of b) f)
 
 -- a build tells the counts of a book, and two tables begin with the book's
 pub record Tables-of (b : Book) (h m : List ℕ) (r : Outcome) : Type 0 where
@@ -129,4 +129,4 @@ accepted-written s h m h′ m′ r b p a long-heads long-moves =
 
     by-answer : (r : Outcome) → says r ≡ ok (counts-of b) → r ≡ Built (counts-of b)
     by-answer (Built c) f = ap Built (ok-injective c (counts-of b) f)
-    by-answer (Refused x) f = absurd (refused-ok (cause-of x) (value-of x) (counts-of b) f)
+    by-answer (Refused x) f = absurd (refused-ok (build-cause x) (build-value x) (counts-of b) f)

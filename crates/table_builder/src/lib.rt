@@ -14,8 +14,8 @@ use book_decoder::Verdict;
 use lay::Place;
 use lay::count;
 use lay::roots;
+use refusals::BuildRefusal;
 use refusals::Check;
-use refusals::Refusal;
 
 // How many names, states and transitions the tables have: their numbers are the first `names` heads and the first 3 `transitions` moves.
 pub struct Counts {
@@ -27,7 +27,7 @@ pub struct Counts {
 // What a build says: the counts of the tables written, or refused.
 pub enum Outcome {
     Built(Counts),
-    Refused(Refusal),
+    Refused(BuildRefusal),
 }
 
 // Builds the tables of a book: the first numbers of heads and moves are written, all others kept; a refusal changes neither.
@@ -57,7 +57,7 @@ fn plan(verdict: Verdict, index: &[u16], heads: usize, moves: usize) -> Outcome
     ensures { λ r. ⌜ ((s : List ℕ) → Checked s (now (index .entry)) verdict → Answers s heads moves r) ⌝ }
 {
     match verdict {
-        Verdict::Refused(refusal) => Outcome::Refused(refusal),
+        Verdict::Refused(refusal) => Outcome::Refused(BuildRefusal::Book(refusal)),
         Verdict::WellFormed(header) => judge(index, header.names, heads, moves),
     }
 }
@@ -77,13 +77,13 @@ fn settle(names: usize, end: Place, heads: usize, moves: usize) -> Outcome
     let states = end.state;
     let transitions = end.count;
     let Check::Passed = few_states(states) else {
-        return Outcome::Refused(Refusal::States);
+        return Outcome::Refused(BuildRefusal::States);
     };
     let Check::Passed = few_transitions(transitions) else {
-        return Outcome::Refused(Refusal::Transitions);
+        return Outcome::Refused(BuildRefusal::Transitions);
     };
     let Check::Passed = long_enough(names, transitions, heads, moves) else {
-        return Outcome::Refused(Refusal::Short);
+        return Outcome::Refused(BuildRefusal::Short);
     };
     Outcome::Built(Counts {
         names: names,

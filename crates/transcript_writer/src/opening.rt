@@ -63,8 +63,8 @@ fn in_numbers(outcome: Outcome) -> Report
         },
         Outcome::Refused(refusal) => Report {
             accepted: false,
-            first: refusals::cause(refusal) as u64,
-            second: refusals::value(refusal) as u64,
+            first: refusals::build_cause(refusal) as u64,
+            second: refusals::build_value(refusal) as u64,
             names: 0,
             transitions: 0,
         },

@@ -4,7 +4,7 @@ use native.Mathlib.Omega.{arith}
 use borrow.Author.Needs.{needs}
 use borrow.Author.Tests.{not-true, not-false}
 use Rattle.base.specs.Decision.Decision.{refuses, yes as answered-yes, no as answered-no}
-use Rattle.query_checker.specs.Question.{says as found}
+use Rattle.query_checker.specs.QueryVerdict.{says as found}
 use Rattle.query_simulation.specs.QueryLaws.{named-role, askable}
 use Rattle.query_answerer.proofs.ask.Statement.{statement}
 use Rattle.query_answerer.proofs.ask.Tie as tie

@@ -1,6 +1,6 @@
 -- `derived` meets its contract: the question is judged by the names that the book says it has, before anything is written.
 use borrow.Author.Needs.{needs}
-use Rattle.query_checker.specs.declared.Question.the-variants.{Fits, Refused}
+use Rattle.query_checker.specs.declared.QueryVerdict.the-variants.{Fits, Refused}
 use Rattle.query_deriver.specs.RepliesLaws.{found, replies-kept}
 use Rattle.query_deriver.proofs.derived.Statement.{statement}
 use Rattle.query_deriver.proofs.derived.Tie as tie

@@ -2,7 +2,7 @@
 use mathlib.Core.Path.{sym, ap, _∙_}
 use native.Mathlib.Omega.{arith}
 use borrow.Author.Needs.{needs}
-use Rattle.query_checker.specs.Question.{says as found}
+use Rattle.query_checker.specs.QueryVerdict.{says as found}
 use Rattle.query_answerer.specs.BatchLaws.{small-cause, asked-wrong, asked-refused, ready-named, ready-readable, asked-yes, asked-no}
 use Rattle.query_answerer.proofs.batch.answer.Statement.{statement}
 use Rattle.query_answerer.proofs.batch.answer.Tie as tie

@@ -1,6 +1,6 @@
-// Why a question is refused, and the number that document 01 gives each cause.
+// Why a question put to tables is refused, causes 12 to 14. The value beside each of them is 0.
 ghost use mathlib.Core.Path.{_≡_};
-ghost use Rattle.query_checker.specs.Question.{cause-of};
+ghost use Rattle.refusals.specs.QueryRefusals.{query-cause};
 
 pub enum QueryRefusal {
     // Heads or moves that are no tables: too few or too many, or a number out of range.
@@ -12,8 +12,8 @@ pub enum QueryRefusal {
 }
 
 // The number of the cause.
-pub fn cause(refusal: QueryRefusal) -> usize
-    ensures { λ r. ⌜ r ≡ cause-of refusal ⌝ }
+pub fn query_cause(refusal: QueryRefusal) -> usize
+    ensures { λ r. ⌜ r ≡ query-cause refusal ⌝ }
 {
     match refusal {
         QueryRefusal::Tables => 12,
