@@ -1,5 +1,5 @@
 -- How answering one question after another gives what a batch promises.
-use mathlib.Core.Bool.{true, false}
+use mathlib.Core.Bool.{Bool, true, false}
 use mathlib.Core.List.{List, [], _∷_, append-assoc, append-nil}
 use mathlib.Core.Logic.{_⊎_, inl, inr}
 use mathlib.Core.Path.{_≡_, refl, sym, ap, ap₂, _∙_}
@@ -10,6 +10,8 @@ use lib.ListN.{length, getD, set, take, drop, length-set, length-drop}
 use lib.Seq.{getD-drop, drop-drop, take-suc-set, drop-set-lt}
 use Rattle.words.specs.Word.{word}
 use Rattle.words.specs.WordLaws.{word-drop}
+use mir.Val.{boolByte}
+use Rattle.base.specs.Decides.{Decides}
 use Rattle.base.specs.Result.Result.{refused, ok}
 use Rattle.roles.specs.Role.{name}
 use Rattle.query_causes.specs.Query.{tables-fit, question, query, Accepts, Answered}
@@ -215,8 +217,6 @@ module _ {heads moves : List ℕ} {names stamp : ℕ} {space : List ℕ} (ready 
                 fit = λ more. (f .0, f .1, left .indexed);
               }
 
-          pub asked-yes : Accepts heads moves role chain → Asked heads moves names q read size 1 (stamp + size) space′
-          asked-yes a = record { answered = yes (query-is ∙ fits) a; ready = ready-after }
-
-          pub asked-no : (Accepts heads moves role chain → ⊥) → Asked heads moves names q read size 0 (stamp + size) space′
-          asked-no a = record { answered = no (query-is ∙ fits) a; ready = ready-after }
+          pub asked-decided : (b : Bool) → Decides b (Accepts heads moves role chain) → Asked heads moves names q read size (boolByte b) (stamp + size) space′
+          asked-decided true d = record { answered = yes (query-is ∙ fits) (d .holds refl); ready = ready-after }
+          asked-decided false d = record { answered = no (query-is ∙ fits) (d .fails refl); ready = ready-after }

@@ -106,10 +106,7 @@ fn answer(
         QueryVerdict::Refused(refusal) => refusals::query_cause(refusal) as u8,
         QueryVerdict::Fits => {
             let head = heads[name(role) as usize] as usize;
-            if run(moves, 2048, role, chain, head, stamp, space) {
-                return 1;
-            }
-            0
+            run(moves, 2048, role, chain, head, stamp, space) as u8
         }
     }
 }

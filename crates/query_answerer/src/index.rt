@@ -16,8 +16,9 @@ pub(crate) fn fill_index(moves: &[u16], room: usize, space: &mut [u16])
     let count = moves.len() / 3;
     let mut k = 0;
     while k < count {
-        let silent = moves[3 * k + 1] / 128;
-        let list = 3 * room + (2 * moves[3 * k] as usize + silent as usize);
+        let place = 3 * k;
+        let silent = moves[place + 1] / 128;
+        let list = 3 * room + (2 * moves[place] as usize + silent as usize);
         space[5 * room + k] = space[list];
         k += 1;
         space[list] = k as u16;

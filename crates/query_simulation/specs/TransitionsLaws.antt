@@ -72,9 +72,6 @@ module _ (moves : List ℕ) (head : ℕ) where
     under-more =
         record { after = omega (arith, so-far .after, grows); states = λ k l. by-number k (lt-or-le k (i / 3)) l }
       where
-        from-bits : ℕ
-        from-bits = bitOr most (getD moves i 0)
-
         all-bits : ℕ
         all-bits = bitOr (bitOr most (getD moves i 0)) (getD moves (i + 2) 0)
 

@@ -12,9 +12,6 @@ use Rattle.query_answerer.proofs.ask.Tie as tie
 shared-slice-read-head : tie.Need-shared-slice-read-head
 shared-slice-read-head c = rw (c .before .name .ensures) (named-role _ _ _ _ (sym (c .before .before .before .before .check .ensures) ∙ ap found (c .before .before .enum-told .given .1)))
 
-cast-head-2 : tie.Need-cast-head-2
-cast-head-2 c = omega (arith, c .shared-slice-known4 .given (c .before .name .result))
-
 accepts-requires : tie.Need-accepts-requires
 accepts-requires c κs = rw (c .before .name .ensures) (askable _ _ _ _ (sym (c .before .before .before .before .check .ensures) ∙ ap found (c .before .before .enum-told .given .1)))
 
@@ -38,7 +35,7 @@ ask-spec =
     (λ c. search needs)
     (λ c. search needs)
     shared-slice-read-head
-    cast-head-2
+    (λ c. omega (arith, c .shared-slice-known4 .given (c .before .name .result)))
     accepts-requires
     returns
     returns-2

@@ -2,24 +2,21 @@
 use mathlib.Core.Path.{sym, ap, _∙_}
 use native.Mathlib.Omega.{arith}
 use borrow.Author.Needs.{needs}
-use Rattle.query_checker.specs.QueryVerdict.{says as found}
-use Rattle.query_answerer.specs.BatchLaws.{small-cause, asked-wrong, asked-refused, ready-named, ready-readable, asked-yes, asked-no}
+use Rattle.query_checker.specs.Question.{says as found}
+use Rattle.query_answerer.specs.BatchLaws.{small-cause, asked-wrong, asked-refused, ready-named, ready-readable, asked-decided}
 use Rattle.query_answerer.proofs.batch.answer.Statement.{statement}
 use Rattle.query_answerer.proofs.batch.answer.Tie as tie
 
-returns : tie.Need-returns
-returns c = asked-wrong (c .before .before .before .before .before .pre .0) _ _ _ (c .if1 .taken)
+add-chain : tie.Need-add-chain
+add-chain c = omega (arith, c .before .before .before .before .before .before .pre .1, c .before .before .before .before .before .before .good)
 
-cast-result : tie.Need-cast-result
-cast-result c = omega (arith, c .cause .ensures, small-cause (c .before .before .question .given .0 .0))
+add-chain-2 : tie.Need-add-chain-2
+add-chain-2 c = omega (arith, c .before .before .before .before .before .before .pre .1, c .before .before .before .before .before .before .good)
 
 shared-slice-read-head : tie.Need-shared-slice-read-head
 shared-slice-read-head c =
     let at-args = c .before .before .before .before .before .before .before .before .before .before .before .before .args in
     rw (c .before .name .ensures) (ready-named (c .before .before .before .before .before .before .before .before .before .before .before .before .pre .0) (at-args .input .now) _ (at-args .size) (c .before .before .before .before .before .before .before .if1 .left) (sym (c .before .before .before .before .check-for .ensures) ∙ ap found (c .before .before .enum-told .given .1)))
-
-cast-head-2 : tie.Need-cast-head-2
-cast-head-2 c = omega (arith, c .shared-slice-known5 .given (c .before .name .result))
 
 run-requires : tie.Need-run-requires
 run-requires c κs =
@@ -28,44 +25,36 @@ run-requires c κs =
     rw (c .before .before .name .ensures) (ready-readable (at-pre .0) (at-args .input .now) _ (at-args .size) (c .before .before .before .before .before .before .before .before .if1 .left) (sym (c .before .before .before .before .before .check-for .ensures) ∙ ap found (c .before .before .before .enum-told .given .1)) (at-pre .1 .0))
 
 returns-2 : tie.Need-returns-2
-returns-2 c =
-    let at-pre = c .before .before .before .before .before .before .before .before .before .before .before .before .before .before .before .before .before .pre in
-    let at-run = c .before .before .before .run in
-    asked-yes (at-pre .0) _ _ _ (c .before .before .before .before .before .before .before .before .before .before .before .before .if1 .left) (sym (c .before .before .before .before .before .before .before .before .before .check-for .ensures) ∙ ap found (c .before .before .before .before .before .before .before .enum-told .given .1)) (at-pre .1 .1) (at-run .ensures .1) ((rw (c .before .before .before .before .before .before .name .ensures) at (at-run .ensures .0)) .holds (c .if2 .taken))
+returns-2 c = asked-refused (c .before .before .before .before .before .before .before .before .before .before .before .before .pre .0) _ _ _ (c .before .before .before .before .before .before .before .if1 .left) (c .before .before .question .given .0 .0) (sym (c .before .before .before .before .check-for .ensures) ∙ ap found (c .before .before .question .given .1)) _ (c .cause .ensures)
 
 returns-3 : tie.Need-returns-3
-returns-3 c = asked-refused (c .before .before .before .before .before .before .before .before .before .before .before .before .pre .0) _ _ _ (c .before .before .before .before .before .before .before .if1 .left) (c .before .before .question .given .0 .0) (sym (c .before .before .before .before .check-for .ensures) ∙ ap found (c .before .before .question .given .1)) _ (c .cause .ensures)
-
-returns-4 : tie.Need-returns-4
-returns-4 c =
-    let at-pre = c .before .before .before .before .before .before .before .before .before .before .before .before .before .before .before .before .before .pre in
-    let at-run = c .before .before .before .run in
-    asked-no (at-pre .0) _ _ _ (c .before .before .before .before .before .before .before .before .before .before .before .before .if1 .left) (sym (c .before .before .before .before .before .before .before .before .before .check-for .ensures) ∙ ap found (c .before .before .before .before .before .before .before .enum-told .given .1)) (at-pre .1 .1) (at-run .ensures .1) ((rw (c .before .before .before .before .before .before .name .ensures) at (at-run .ensures .0)) .fails (c .if2 .left))
+returns-3 c =
+    let at-pre = c .before .before .before .before .before .before .before .before .before .before .before .before .before .before .before .before .pre in
+    asked-decided (at-pre .0) _ _ _ (c .before .before .before .before .before .before .before .before .before .before .before .if1 .left) (sym (c .before .before .before .before .before .before .before .before .check-for .ensures) ∙ ap found (c .before .before .before .before .before .before .enum-told .given .1)) (at-pre .1 .1) (c .before .before .run .ensures .1) _ (rw (c .before .before .before .before .before .name .ensures) at (c .before .before .run .ensures .0))
 
 pub answer-spec : {M : Type 1} → statement M
 answer-spec =
     tie.close
     (tie.spec
-    returns
-    (λ c. search needs)
-    (λ c. search needs)
-    (λ c. search needs)
-    (λ c. search needs)
-    (λ c. search needs)
-    (λ c. search needs)
+    (λ c. asked-wrong (c .before .before .before .before .before .pre .0) _ _ _ (c .if1 .taken))
+    (λ c. omega (arith, c .before .before .before .before .before .before .pre .1))
+    add-chain
+    add-chain-2
+    (λ c. omega (arith, c .before .before .before .before .before .before .pre .1))
+    (λ c. omega (arith, c .before .before .before .before .before .before .pre .1))
+    (λ c. omega (arith, c .before .before .before .before .before .before .pre .1))
     (λ c κs. search needs)
     (λ c. search needs)
     (λ c κs. search needs)
-    cast-result
+    (λ c. omega (arith, c .cause .ensures, small-cause (c .before .before .question .given .0 .0)))
     (λ c. search needs)
     (λ c κs. search needs)
     (λ c. search needs)
     (λ c. search needs)
     shared-slice-read-head
-    cast-head-2
+    (λ c. omega (arith, c .shared-slice-known5 .given (c .before .name .result)))
     run-requires
     (λ c. search needs)
     returns-2
-    returns-3
-    (λ c. search needs)
-    returns-4)
+    (λ c. c .before .space .given)
+    returns-3)

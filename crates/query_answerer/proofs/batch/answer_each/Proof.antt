@@ -15,17 +15,11 @@ Inv-loop heads moves names input answers₀ space₀ stamp₀ read₀ answered�
 abbrev μ-loop : tie.MeasureT-loop
 μ-loop heads moves names input answers₀ space₀ stamp₀ read₀ answered₀ answers space stamp read answered = length answers₀ - answered
 
-loop-holds : tie.Need-loop-holds Inv-loop μ-loop
-loop-holds c = (going-none _ _ _ _, (c .before .before .before .before .before .pre, refl))
-
 answer-requires : tie.Need-answer-requires Inv-loop μ-loop
 answer-requires c κs =
     let at-loop = c .before .before .before .before .before .before .before .before .loop in
     let at-renew = c .before .before .before .renew in
     let fits = whole-fits _ _ _ (at-loop .inv .0 .within) (c .before .before .before .before .before .before .whole .ensures) (c .before .before .before .before .before .if1 .left) in (ready-renewed (at-loop .inv .1 .0) (at-renew .ensures), (at-renew .ensures .small, fits .0, fits .1))
-
-cast-stamp : tie.Need-cast-stamp Inv-loop μ-loop
-cast-stamp c = omega (arith, c .before .before .before .before .before .before .renew .ensures .small)
 
 add-stamp : tie.Need-add-stamp Inv-loop μ-loop
 add-stamp c = omega (arith, c .before .before .before .before .before .before .renew .ensures .small, whole-fits _ _ _ (c .before .before .before .before .before .before .before .before .before .before .before .loop .inv .0 .within) (c .before .before .before .before .before .before .before .before .before .whole .ensures) (c .before .before .before .before .before .before .before .before .if1 .left), c .before .before .before .before .before .before .before .before .before .before .before .before .before .before .before .before .before .good)
@@ -44,9 +38,6 @@ loop-again c =
     let at-loop = c .before .before .before .before .before .before .before .before .before .before .before .loop in
     (going-next _ _ _ (at-loop .inv .0 .within) (c .before .before .before .before .before .before .before .before .before .whole .ensures) (c .before .before .before .before .before .before .before .before .if1 .left) _ _ _ _ _ _ (at-loop .inv .0) (c .before .before .before .before .before .before .before .before .before .before .loop-test .taken) (c .before .before .answer .ensures .answered), (c .before .before .answer .ensures .ready, c .before .space2 .given ∙ c .before .before .before .before .before .space .given ∙ at-loop .inv .1 .1))
 
-returns : tie.Need-returns Inv-loop μ-loop
-returns c = going-full _ _ _ _ _ _ _ (c .before .loop .inv .0) (c .loop-test .left)
-
 returns-2 : tie.Need-returns-2 Inv-loop μ-loop
 returns-2 c = going-broken _ _ _ _ _ _ _ (c .before .before .before .loop .inv .0) _ (c .before .whole .ensures) (c .if1 .taken)
 
@@ -56,12 +47,12 @@ answer-each-spec =
     (tie.spec
     Inv-loop
     μ-loop
-    loop-holds
+    (λ c. (going-none _ _ _ _, (c .before .before .before .before .before .pre, refl)))
     (λ c κs. c .before .loop .inv .0 .within)
     (λ c κs. c .before .before .before .before .loop .inv .1 .0 .unused)
     answer-requires
     (λ c. search needs)
-    cast-stamp
+    (λ c. omega (arith, c .before .before .before .before .before .before .renew .ensures .small))
     add-stamp
     add-read
     add-answered
@@ -69,7 +60,7 @@ answer-each-spec =
     loop-again
     (λ c. c .before .loop .inv .0 .same)
     (λ c. c .before .loop .inv .1 .1)
-    returns
+    (λ c. going-full _ _ _ _ _ _ _ (c .before .loop .inv .0) (c .loop-test .left))
     (λ c. c .before .before .before .loop .inv .0 .same)
     (λ c. c .before .before .before .loop .inv .1 .1)
     returns-2)

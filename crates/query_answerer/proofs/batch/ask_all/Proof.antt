@@ -17,9 +17,6 @@ fill-index-requires c κs = let t = tables _ _ (check-passed _ _ (c .before .bef
 cast-names : tie.Need-cast-names
 cast-names c = omega (arith, tables _ _ (check-passed _ _ (c .before .before .before .before .before .tables-fit .ensures) (c .before .before .before .enum-told .given .1)) .few-heads)
 
-slice-aggregate-answer-each : tie.Need-slice-aggregate-answer-each
-slice-aggregate-answer-each c = ⊎-elim (λ w. rw (w .5) (search needs)) (λ w. rw (w .2) refl) (c .before .before .match .came)
-
 answer-each-requires : tie.Need-answer-each-requires
 answer-each-requires c κs =
     let at-tables-fit = c .before .before .before .tables-fit in
@@ -35,7 +32,7 @@ ask-all-spec =
     fill-index-requires
     cast-names
     (λ c. search needs)
-    slice-aggregate-answer-each
+    (λ c. ⊎-elim (λ w. rw (w .5) (search needs)) (λ w. rw (w .2) refl) (c .before .before .match .came))
     answer-each-requires
     (λ c. search needs)
     (λ c. search needs))

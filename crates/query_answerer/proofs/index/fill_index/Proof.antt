@@ -2,7 +2,6 @@
 use mathlib.Core.Path.{_≡_, refl}
 use Prim.Native.Nat.{_≤_, _-_}
 use native.Mathlib.Omega.{arith}
-use borrow.Author.Needs.{needs}
 use lib.ListN.{length, length-set}
 use Rattle.query_simulation.specs.Transitions.{transition-count}
 use Rattle.query_simulation.specs.TransitionIndex.{Prepared}
@@ -21,8 +20,8 @@ cast-list c =
     let at-pre = c .before .before .before .before .pre in
     omega (arith, at-pre .0 (c .before .before .before .loop .k) (c .before .before .loop-test .taken), at-pre .1 .unused .low)
 
-mul-list-4 : tie.Need-mul-list-4 Inv-loop μ-loop
-mul-list-4 c =
+mul-list-3 : tie.Need-mul-list-3 Inv-loop μ-loop
+mul-list-3 c =
     let at-pre = c .before .before .before .before .pre in
     omega (arith, at-pre .0 (c .before .before .before .loop .k) (c .before .before .loop-test .taken), at-pre .1 .unused .low)
 
@@ -49,8 +48,20 @@ slice-read-space c =
     let at-loop = c .before .before .before .before .loop in
     omega (arith, c .before .before .before .before .before .pre .0 (at-loop .k) (c .before .before .before .loop-test .taken), at-loop .inv .1 .1 .indexed .space)
 
+add-space : tie.Need-add-space Inv-loop μ-loop
+add-space c = omega (arith, c .before .before .before .loop-test .taken, c .before .before .before .before .before .pre .1 .indexed)
+
+mul-space-3 : tie.Need-mul-space-3 Inv-loop μ-loop
+mul-space-3 c = omega (arith, c .before .before .before .loop-test .taken, c .before .before .before .before .before .pre .1 .indexed)
+
 slice-write-space : tie.Need-slice-write-space Inv-loop μ-loop
 slice-write-space c = omega (arith, c .before .before .before .loop-test .taken, c .before .before .before .before .loop .inv .1 .1 .indexed .space)
+
+add-k : tie.Need-add-k Inv-loop μ-loop
+add-k c = omega (arith, c .before .before .before .loop-test .taken, c .before .before .before .before .before .pre .1 .indexed)
+
+cast-space : tie.Need-cast-space Inv-loop μ-loop
+cast-space c = omega (arith, c .before .before .before .loop-test .taken, c .before .before .before .before .before .pre .1 .indexed)
 
 mul-space-4 : tie.Need-mul-space-4 Inv-loop μ-loop
 mul-space-4 c =
@@ -78,27 +89,26 @@ fill-index-spec =
     Inv-loop
     μ-loop
     (λ c. (omega arith, (refl, c .pre .1)))
-    (λ c. search needs)
-    (λ c. search needs)
-    (λ c. search needs)
-    (λ c. search needs)
-    (λ c. search needs)
-    (λ c. search needs)
-    (λ c. search needs)
-    (λ c. search needs)
+    (λ c. omega (arith, c .loop-test .taken, c .before .before .pre .1 .indexed))
+    (λ c. omega (arith, c .loop-test .taken, c .before .before .pre .1 .indexed))
+    (λ c. omega (arith, c .loop-test .taken, c .before .before .pre .1 .indexed))
+    (λ c. omega (arith, c .before .loop-test .taken))
+    (λ c. omega (arith, c .before .before .before .pre .1 .unused .low))
+    (λ c. omega (arith, c .before .loop-test .taken, c .before .before .before .pre .1 .indexed))
+    (λ c. omega (arith, c .before .before .loop-test .taken))
     cast-list
-    mul-list-4
+    mul-list-3
     cast-list-2
     add-list
     add-list-2
     mul-space
     slice-read-space
-    (λ c. search needs)
-    (λ c. search needs)
-    (λ c. search needs)
+    (λ c. omega (arith, c .before .before .before .before .before .pre .1 .unused .low))
+    add-space
+    mul-space-3
     slice-write-space
-    (λ c. search needs)
-    (λ c. search needs)
+    add-k
+    cast-space
     mul-space-4
     slice-write-space-2
     (λ c. omega (arith, c .before .before .before .loop-test .taken))

@@ -17,12 +17,6 @@ Inv-loop moves head most₀ i₀ most i = (i ≤ length moves) × ((3 * (i / 3) 
 abbrev μ-loop : tie.MeasureT-loop
 μ-loop moves head most₀ i₀ most i = length moves - i
 
-cast-most : tie.Need-cast-most Inv-loop μ-loop
-cast-most c = omega (arith, c .shared-slice-known .given (c .before .before .loop .i))
-
-cast-most-2 : tie.Need-cast-most-2 Inv-loop μ-loop
-cast-most-2 c = omega (arith, c .shared-slice-known2 .given (c .before .before .before .loop .i + 2))
-
 add-i : tie.Need-add-i Inv-loop μ-loop
 add-i c = omega (arith, c .before .before .before .loop .inv .0, c .before .before .before .before .if1 .left)
 
@@ -46,11 +40,11 @@ is-small-spec =
     (λ c. omega (arith, c .loop .inv .0, c .before .if1 .left))
     (λ c. omega (arith, c .before .loop .inv .0, c .before .before .if1 .left))
     (λ c. search needs)
-    cast-most
+    (λ c. omega (arith, c .shared-slice-known .given (c .before .before .loop .i)))
     (λ c. search needs)
     (λ c. search needs)
     (λ c. search needs)
-    cast-most-2
+    (λ c. omega (arith, c .shared-slice-known2 .given (c .before .before .before .loop .i + 2)))
     add-i
     (λ c. omega (arith, c .before .before .loop-test .taken))
     loop-again

@@ -14,15 +14,6 @@ Inv-loop moves room space₀ list stamp count all₀ i₀ space all i = (i ≤ a
 abbrev μ-loop : tie.MeasureT-loop
 μ-loop moves room space₀ list stamp count all₀ i₀ space all i = room - i
 
-add-slot : tie.Need-add-slot Inv-loop μ-loop
-add-slot c = omega (arith, c .before .loop .inv .1 .added .good .members, c .loop-test .taken)
-
-mul-slot : tie.Need-mul-slot Inv-loop μ-loop
-mul-slot c = omega (arith, c .before .loop .inv .1 .added .good .members, c .loop-test .taken)
-
-slice-read-slot : tie.Need-slice-read-slot Inv-loop μ-loop
-slice-read-slot c = omega (arith, c .before .before .loop .inv .1 .added .good .members, c .before .loop-test .taken)
-
 cast-slot : tie.Need-cast-slot Inv-loop μ-loop
 cast-slot c = omega (arith, c .slice-known2 .given (c .before .before .before .before .before .args .list + c .before .before .loop .i))
 
@@ -58,9 +49,9 @@ close-spec =
     Inv-loop
     μ-loop
     (λ c. (omega arith, closing-start (c .before .before .pre .good)))
-    add-slot
-    mul-slot
-    slice-read-slot
+    (λ c. omega (arith, c .before .loop .inv .1 .added .good .members, c .loop-test .taken))
+    (λ c. omega (arith, c .before .loop .inv .1 .added .good .members, c .loop-test .taken))
+    (λ c. omega (arith, c .before .before .loop .inv .1 .added .good .members, c .before .loop-test .taken))
     cast-slot
     mul-slot-2
     add-slot-2

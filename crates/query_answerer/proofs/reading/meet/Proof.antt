@@ -6,9 +6,6 @@ use Rattle.query_simulation.specs.TransitionIndexLaws.{met-same, met-other}
 use Rattle.query_answerer.proofs.reading.meet.Statement.{statement}
 use Rattle.query_answerer.proofs.reading.meet.Tie as tie
 
-returns : tie.Need-returns
-returns c = met-other _ _ _ (c .if1 .taken) (c .before .before .before .before .pre .0 .good)
-
 cast-put : tie.Need-cast-put
 cast-put c = omega (arith, c .before .before .before .shared-slice-known2 .given (3 * c .before .before .before .before .before .before .args .k + 2))
 
@@ -28,7 +25,7 @@ meet-spec =
     (λ c. search needs)
     (λ c. search needs)
     (λ c. search needs)
-    returns
+    (λ c. met-other _ _ _ (c .if1 .taken) (c .before .before .before .before .pre .0 .good))
     (λ c. search needs)
     (λ c. search needs)
     (λ c. search needs)

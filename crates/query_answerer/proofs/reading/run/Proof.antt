@@ -2,7 +2,6 @@
 use mathlib.Core.Path.{_≡_, refl, _∙_}
 use Prim.Native.Nat.{_≤_, _+_, _-_}
 use native.Mathlib.Omega.{arith}
-use borrow.Author.Needs.{needs}
 use lib.ListN.{length}
 use Rattle.query_causes.specs.Query.{asked}
 use Rattle.query_simulation.specs.AskedLaws.{asked-letter, read-link, read-asked}
@@ -37,6 +36,9 @@ add-newest c =
     let at-pre = c .before .before .before .before .before .before .before .before .before .before .before .before .before .pre in
     omega (arith, c .before .loop .inv .1 .0, c .loop-test .taken, at-pre .letters .few, at-pre .early)
 
+cast-label : tie.Need-cast-label Inv-loop μ-loop
+cast-label c = omega (arith, asked-letter _ _ _ (c .before .loop-test .taken) (c .before .before .before .before .before .before .before .before .before .before .before .before .before .before .pre .letters) (c .link .ensures))
+
 step-requires : tie.Need-step-requires Inv-loop μ-loop
 step-requires c κs = read-steps _ _ (c .before .before .before .loop .inv .1 .1 .1) (omega arith) (asked-letter _ _ _ (c .before .before .loop-test .taken) (c .before .before .before .before .before .before .before .before .before .before .before .before .before .before .before .pre .letters) (c .before .link .ensures))
 
@@ -45,9 +47,6 @@ sub-list c = omega (arith, c .before .before .before .before .before .before .lo
 
 add-i : tie.Need-add-i Inv-loop μ-loop
 add-i c = omega (arith, c .before .before .before .before .before .loop-test .taken, c .before .before .before .before .before .before .before .before .before .before .before .before .before .before .before .before .before .before .pre .letters .few)
-
-loop-less : tie.Need-loop-less Inv-loop μ-loop
-loop-less c = omega (arith, c .before .before .before .before .before .loop-test .taken)
 
 loop-again : tie.Need-loop-again Inv-loop μ-loop
 loop-again c =
@@ -93,11 +92,11 @@ run-spec =
     loop-holds
     add-newest
     (λ c κs. c .loop-test .taken)
-    (λ c. search needs)
+    cast-label
     step-requires
     sub-list
     add-i
-    loop-less
+    (λ c. omega (arith, c .before .before .before .before .before .loop-test .taken))
     loop-again
     mul-result
     add-result

@@ -2,7 +2,6 @@
 use mathlib.Core.Path.{_≡_}
 use Prim.Native.Nat.{_+_, _*_, _-_}
 use native.Mathlib.Omega.{arith}
-use borrow.Author.Needs.{needs}
 use Rattle.query_simulation.specs.TransitionIndex.{Walked}
 use Rattle.query_simulation.specs.TransitionIndexLaws.{indexed-behind, walked-start, walked-more, next-less}
 use Rattle.query_answerer.proofs.reading.spread.Statement.{statement}
@@ -32,6 +31,19 @@ loop-holds c =
 meet-requires : tie.Need-meet-requires Inv-loop μ-loop
 meet-requires c κs = (record { good = c .before .before .loop .inv .spread .added .good; indexed = indexed-behind (c .before .before .loop .inv .spread .added .behind) (c .before .before .before .before .before .before .pre .0 .indexed) }, omega (arith, c .before .before .loop .inv .low, c .before .loop-test .taken))
 
+mul-at-3 : tie.Need-mul-at-3 Inv-loop μ-loop
+mul-at-3 c = omega (arith, c .before .before .before .before .before .before .before .before .before .pre .0 .good .members .low)
+
+add-at-2 : tie.Need-add-at-2 Inv-loop μ-loop
+add-at-2 c =
+    let at-pre = c .before .before .before .before .before .before .before .before .before .pre in
+    omega (arith, c .before .before .before .before .before .loop .inv .low, at-pre .0 .indexed .space, at-pre .0 .indexed .short)
+
+mul-at-4 : tie.Need-mul-at-4 Inv-loop μ-loop
+mul-at-4 c =
+    let at-pre = c .before .before .before .before .before .before .before .before .before .pre in
+    omega (arith, c .before .before .before .before .before .loop .inv .low, at-pre .0 .indexed .space, at-pre .0 .indexed .short)
+
 slice-read-at-2 : tie.Need-slice-read-at-2 Inv-loop μ-loop
 slice-read-at-2 c =
     let at-loop = c .before .before .before .before .before .before .loop in
@@ -55,18 +67,18 @@ spread-spec =
     (tie.spec
     Inv-loop
     μ-loop
-    (λ c. search needs)
-    (λ c. search needs)
-    (λ c. search needs)
+    (λ c. omega (arith, c .before .before .pre .0 .good .members .low))
+    (λ c. omega (arith, c .before .before .pre .0 .good .members .low, c .before .before .pre .1))
+    (λ c. omega (arith, c .before .before .pre .0 .good .members .low, c .before .before .pre .1))
     slice-read-at
     cast-at
     loop-holds
-    (λ c. search needs)
+    (λ c. c .loop-test .taken)
     meet-requires
-    (λ c. search needs)
-    (λ c. search needs)
-    (λ c. search needs)
-    (λ c. search needs)
+    mul-at-3
+    add-at-2
+    (λ c. omega (arith, c .before .before .before .before .loop-test .taken))
+    mul-at-4
     slice-read-at-2
     cast-at-2
     loop-less

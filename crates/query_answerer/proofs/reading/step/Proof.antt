@@ -14,12 +14,6 @@ Inv-loop moves room label space₀ list count stamp next found₀ i₀ space fou
 abbrev μ-loop : tie.MeasureT-loop
 μ-loop moves room label space₀ list count stamp next found₀ i₀ space found i = count - i
 
-add-slot : tie.Need-add-slot Inv-loop μ-loop
-add-slot c = omega (arith, c .before .before .before .before .pre .members, c .loop-test .taken)
-
-mul-slot : tie.Need-mul-slot Inv-loop μ-loop
-mul-slot c = omega (arith, c .before .before .before .before .pre .members, c .loop-test .taken)
-
 slice-read-slot : tie.Need-slice-read-slot Inv-loop μ-loop
 slice-read-slot c = omega (arith, c .before .before .before .before .before .pre .members, c .before .loop-test .taken, c .before .before .loop .inv .1 .added .behind .same)
 
@@ -37,9 +31,6 @@ spread-requires c κs =
 
 add-i : tie.Need-add-i Inv-loop μ-loop
 add-i c = omega (arith, c .before .before .before .before .before .before .before .before .before .pre .members, c .before .before .before .before .before .loop-test .taken)
-
-loop-less : tie.Need-loop-less Inv-loop μ-loop
-loop-less c = omega (arith, c .before .before .before .before .before .loop-test .taken)
 
 loop-again : tie.Need-loop-again Inv-loop μ-loop
 loop-again c =
@@ -65,14 +56,14 @@ step-spec =
     μ-loop
     (λ c. omega (arith, c .before .before .pre .members .side))
     (λ c. (omega arith, gathered-start (c .before .before .pre)))
-    add-slot
-    mul-slot
+    (λ c. omega (arith, c .before .before .before .before .pre .members, c .loop-test .taken))
+    (λ c. omega (arith, c .before .before .before .before .pre .members, c .loop-test .taken))
     slice-read-slot
     cast-slot
     mul-slot-2
     spread-requires
     add-i
-    loop-less
+    (λ c. omega (arith, c .before .before .before .before .before .loop-test .taken))
     loop-again
     close-requires
     same-length

@@ -6,15 +6,6 @@ use Rattle.query_simulation.specs.StatesLaws.{put-nothing, put-written}
 use Rattle.query_answerer.proofs.states.put.Statement.{statement}
 use Rattle.query_answerer.proofs.states.put.Tie as tie
 
-returns : tie.Need-returns
-returns c = put-nothing (c .before .before .pre .0) _ (c .before .before .pre .1) (c .if1 .taken)
-
-slice-write-space-2 : tie.Need-slice-write-space-2
-slice-write-space-2 c = simp length-set (omega (arith, c .before .before .pre .0 .members .size))
-
-returns-2 : tie.Need-returns-2
-returns-2 c = put-written (c .before .before .pre .0) _ (c .before .before .pre .1) (c .if1 .left)
-
 pub put-spec : {M : Type 1} → statement M
 put-spec =
     tie.close
@@ -23,13 +14,13 @@ put-spec =
     (λ c. search needs)
     (λ c. search needs)
     (λ c. search needs)
-    returns
+    (λ c. put-nothing (c .before .before .pre .0) _ (c .before .before .pre .1) (c .if1 .taken))
     (λ c. search needs)
     (λ c. search needs)
     (λ c. search needs)
     (λ c. search needs)
     (λ c. search needs)
-    slice-write-space-2
+    (λ c. simp length-set (omega (arith, c .before .before .pre .0 .members .size)))
     (λ c. search needs)
     (λ c. search needs)
-    returns-2)
+    (λ c. put-written (c .before .before .pre .0) _ (c .before .before .pre .1) (c .if1 .left)))

@@ -13,12 +13,6 @@ Inv-loop space₀ stamp i₀ space i = (4096 ≤ i) × Cleared 2048 i space₀ s
 abbrev μ-loop : tie.MeasureT-loop
 μ-loop space₀ stamp i₀ space i = 6144 - i
 
-returns : tie.Need-returns Inv-loop μ-loop
-returns c = record { small = c .if1 .taken; unused = c .before .pre; behind = behind-same 2048 _ }
-
-slice-write-space : tie.Need-slice-write-space Inv-loop μ-loop
-slice-write-space c = omega (arith, c .before .loop .inv .1 .behind .same, c .before .before .before .pre .size)
-
 loop-again : tie.Need-loop-again Inv-loop μ-loop
 loop-again c = (omega (arith, c .before .loop .inv .0), cleared-more 2048 _ _ _ (c .before .loop .inv .1) (c .loop-test .taken) (omega (arith, c .before .loop .inv .1 .behind .same, c .before .before .before .pre .size)))
 
@@ -32,10 +26,10 @@ renew-spec =
     Inv-loop
     μ-loop
     (λ c. search needs)
-    returns
+    (λ c. record { small = c .if1 .taken; unused = c .before .pre; behind = behind-same 2048 _ })
     (λ c. (omega arith, cleared-none 2048 _))
     (λ c. search needs)
-    slice-write-space
+    (λ c. omega (arith, c .before .loop .inv .1 .behind .same, c .before .before .before .pre .size))
     (λ c. search needs)
     (λ c. search needs)
     loop-again
