@@ -167,7 +167,8 @@ module _ {heads moves : List ℕ} {names stamp : ℕ} {space : List ℕ} (ready 
         fit = λ some. let f = ready .fit some in (f .0, f .1, indexed-behind (r .behind) (f .2));
       }
 
-  ready-later : (later : ℕ) → stamp ≤ later → Ready heads moves names later space
+  -- a later stamp is newer too
+  pub ready-later : (later : ℕ) → stamp ≤ later → Ready heads moves names later space
   ready-later later l = record { unused = unused-later later l (ready .unused); wrong = ready .wrong; fit = ready .fit }
 
   module _ (q : List ℕ) (read size : ℕ) where

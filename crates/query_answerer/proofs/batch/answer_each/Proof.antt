@@ -5,7 +5,7 @@ use native.Mathlib.Omega.{arith}
 use borrow.Author.Needs.{needs}
 use lib.ListN.{length}
 use Rattle.query_answerer.specs.Batch.{Ready, Going}
-use Rattle.query_answerer.specs.BatchLaws.{whole-fits, ready-renewed, going-none, going-next, going-full, going-broken}
+use Rattle.query_answerer.specs.BatchLaws.{whole-fits, ready-renewed, ready-later, going-none, going-next, going-full, going-broken}
 use Rattle.query_answerer.proofs.batch.answer_each.Statement.{statement}
 use Rattle.query_answerer.proofs.batch.answer_each.Tie as tie
 
@@ -36,7 +36,7 @@ loop-less c = omega (arith, c .before .before .before .before .before .before .b
 loop-again : tie.Need-loop-again Inv-loop μ-loop
 loop-again c =
     let at-loop = c .before .before .before .before .before .before .before .before .before .before .before .loop in
-    (going-next _ _ _ (at-loop .inv .0 .within) (c .before .before .before .before .before .before .before .before .before .whole .ensures) (c .before .before .before .before .before .before .before .before .if1 .left) _ _ _ _ _ _ (at-loop .inv .0) (c .before .before .before .before .before .before .before .before .before .before .loop-test .taken) (c .before .before .answer .ensures .answered), (c .before .before .answer .ensures .ready, c .before .space2 .given ∙ c .before .before .before .before .before .space .given ∙ at-loop .inv .1 .1))
+    (going-next _ _ _ (at-loop .inv .0 .within) (c .before .before .before .before .before .before .before .before .before .whole .ensures) (c .before .before .before .before .before .before .before .before .if1 .left) _ _ _ _ _ _ (at-loop .inv .0) (c .before .before .before .before .before .before .before .before .before .before .loop-test .taken) (c .before .before .answer .ensures .answered), (ready-later (c .before .before .answer .ensures .ready) _ (omega arith), c .before .space2 .given ∙ c .before .before .before .before .before .space .given ∙ at-loop .inv .1 .1))
 
 returns-2 : tie.Need-returns-2 Inv-loop μ-loop
 returns-2 c = going-broken _ _ _ _ _ _ _ (c .before .before .before .loop .inv .0) _ (c .before .whole .ensures) (c .if1 .taken)
