@@ -2,7 +2,7 @@
 use mathlib.Core.Path.{sym, ap, _∙_}
 use native.Mathlib.Omega.{arith}
 use borrow.Author.Needs.{needs}
-use Rattle.query_checker.specs.Question.{says as found}
+use Rattle.query_checker.specs.QueryVerdict.{says as found}
 use Rattle.query_answerer.specs.BatchLaws.{small-cause, asked-wrong, asked-refused, ready-named, ready-readable, asked-decided}
 use Rattle.query_answerer.proofs.batch.answer.Statement.{statement}
 use Rattle.query_answerer.proofs.batch.answer.Tie as tie
@@ -25,7 +25,7 @@ run-requires c κs =
     rw (c .before .before .name .ensures) (ready-readable (at-pre .0) (at-args .input .now) _ (at-args .size) (c .before .before .before .before .before .before .before .before .if1 .left) (sym (c .before .before .before .before .before .check-for .ensures) ∙ ap found (c .before .before .before .enum-told .given .1)) (at-pre .1 .0))
 
 returns-2 : tie.Need-returns-2
-returns-2 c = asked-refused (c .before .before .before .before .before .before .before .before .before .before .before .before .pre .0) _ _ _ (c .before .before .before .before .before .before .before .if1 .left) (c .before .before .question .given .0 .0) (sym (c .before .before .before .before .check-for .ensures) ∙ ap found (c .before .before .question .given .1)) _ (c .cause .ensures)
+returns-2 c = asked-refused (c .before .before .before .before .before .before .before .before .before .before .before .before .pre .0) _ _ _ (c .before .before .before .before .before .before .before .if1 .left) (c .before .before .question .given .0 .0) (sym (c .before .before .before .before .check-for .ensures) ∙ ap found (c .before .before .question .given .1)) _ (c .query-cause .ensures)
 
 returns-3 : tie.Need-returns-3
 returns-3 c =
@@ -46,7 +46,7 @@ answer-spec =
     (λ c κs. search needs)
     (λ c. search needs)
     (λ c κs. search needs)
-    (λ c. omega (arith, c .cause .ensures, small-cause (c .before .before .question .given .0 .0)))
+    (λ c. omega (arith, c .query-cause .ensures, small-cause (c .before .before .question .given .0 .0)))
     (λ c. search needs)
     (λ c κs. search needs)
     (λ c. search needs)

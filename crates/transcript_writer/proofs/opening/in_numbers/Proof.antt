@@ -10,7 +10,7 @@ use Rattle.transcript_writer.proofs.opening.in_numbers.Tie as tie
 
 returns-2 : tie.Need-returns-2
 returns-2 c =
-    reported-as _ _ (c .before .before .before .outcome2 .given .1) (ap₂ (λ (cause value : ℕ). reported (refused cause value)) (c .before .cause .ensures) (c .value .ensures))
+    reported-as _ _ (c .before .before .before .outcome2 .given .1) (ap₂ (λ (cause value : ℕ). reported (refused cause value)) (c .before .build-cause .ensures) (c .build-value .ensures))
 
 pub in-numbers-spec : {M : Type 1} → statement M
 in-numbers-spec =
