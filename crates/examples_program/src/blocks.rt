@@ -6,49 +6,64 @@ use transcript_writer::Tables;
 
 const HALL: [u8; 20] = *b"RLB\x01\0\x04\x03\0\0\x02\0\0\x02\x02\0\x02\x06\x02\x02\x04";
 
+// What is left of the input, and the number of the next question.
+struct Left {
+    bytes: [u8; 64],
+    size: usize,
+    number: u64,
+}
+
 // Writes all that the program would write for the first `size` bytes of the questions in two blocks, of which the first has `border` bytes.
 pub(crate) fn try_blocks(questions: &[u8], border: usize, size: usize) {
     let mut line = [0u8; 64];
-    let mut input = [0u8; 64];
     let opening = transcript_writer::open(&HALL, &mut line);
     let tables = opening.tables;
     io::write_all(STDOUT_FILENO, part(&line, 0, opening.written));
-    let first = append(&mut input, 0, part(questions, 0, border));
-    let begun = answer(tables, 0, &mut input, first);
-    let kept = begun.kept;
-    let end = append(&mut input, kept, part(questions, border, size));
-    let rest = answer(tables, begun.number, &mut input, end);
-    let left = transcript_writer::last_line(rest.number, part(&input, 0, rest.kept), &mut line);
-    io::write_all(STDOUT_FILENO, part(&line, 0, left));
+    let none = Left {
+        bytes: [0u8; 64],
+        size: 0,
+        number: 0,
+    };
+    let begun = answer(tables, none, part(questions, 0, border));
+    end(answer(tables, begun, part(questions, border, size)));
 }
 
-struct Answered {
-    number: u64,
-    kept: usize,
-}
-
-// Answers a block and writes its lines.
-fn answer(tables: Tables, number: u64, input: &mut [u8], end: usize) -> Answered {
+// Answers a block after what is left of the one before, and writes its lines.
+fn answer(tables: Tables, before: Left, text: &[u8]) -> Left {
+    let bytes = before.bytes;
+    let mut input = append(bytes, before.size, text);
+    let end = before.size % 64 + text.len() % 64;
     let mut out = [0u8; 1024];
-    let progress = transcript_writer::answer_block(tables, number, input, end, &mut out);
+    let progress = transcript_writer::answer_block(
+        tables,
+        before.number,
+        &mut input,
+        end,
+        &mut out,
+    );
     io::write_all(STDOUT_FILENO, part(&out, 0, progress.written));
-    Answered {
+    Left {
+        bytes: input,
+        size: progress.kept,
         number: progress.number,
-        kept: progress.kept,
     }
 }
 
-// Puts the bytes of a text into the buffer from a place on, as many as fit; returns the place after them.
-fn append(buffer: &mut [u8], at: usize, text: &[u8]) -> usize {
+// Writes the last line, of a question that is cut.
+fn end(left: Left) {
+    let mut line = [0u8; 64];
+    let bytes = left.bytes;
+    let size = transcript_writer::last_line(left.number, part(&bytes, 0, left.size), &mut line);
+    io::write_all(STDOUT_FILENO, part(&line, 0, size));
+}
+
+// The buffer with the bytes of a text from a place on.
+fn append(before: [u8; 64], at: usize, text: &[u8]) -> [u8; 64] {
+    let mut buffer = before;
     let mut i = 0;
-    let mut end = at;
     while i < text.len() {
-        if buffer.len() <= end {
-            return end;
-        }
-        buffer[end] = byte(text, i);
-        end += 1;
+        buffer[(at % 64 + i % 64) % 64] = byte(text, i);
         i += 1;
     }
-    end
+    buffer
 }

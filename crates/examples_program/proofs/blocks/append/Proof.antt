@@ -1,5 +1,4 @@
--- `append` meets its contract: the buffer keeps its length.
-use mathlib.Core.Path.{_≡_}
+-- `append` is safe and ends.
 use Prim.Native.Nat.{_-_}
 use lib.ListN.{length}
 use borrow.Author.Needs.{needs}
@@ -7,10 +6,10 @@ use Rattle.examples_program.proofs.blocks.append.Statement.{statement}
 use Rattle.examples_program.proofs.blocks.append.Tie as tie
 
 abbrev Inv-loop : tie.InvT-loop
-Inv-loop buffer₀ at text i₀ end₀ buffer i end = length buffer ≡ length buffer₀
+Inv-loop at text buffer₀ i₀ buffer i = Unit
 
 abbrev μ-loop : tie.MeasureT-loop
-μ-loop buffer₀ at text i₀ end₀ buffer i end = length text - i
+μ-loop at text buffer₀ i₀ buffer i = length text - i
 
 pub append-spec : {M : Type 1} → statement M
 append-spec =
@@ -19,10 +18,7 @@ append-spec =
     Inv-loop
     μ-loop
     (λ c. search needs)
-    (λ c. search needs)
-    (λ c. search needs)
     (λ c κs. search needs)
-    (λ c. search needs)
     (λ c. search needs)
     (λ c. search needs)
     (λ c. search needs)
