@@ -103,20 +103,16 @@ pub record Yields (s : List ℕ) (k : ℕ) (step : Step) : Type 0 where
   pub hands : (e : Entry) (next : Cursor) → step ≡ Rule-and-next e next → Hands s k e next
 
 -- below the rule count of a book whose rules are whole, a step yields rule k
-pub yields : (s : List ℕ) (n : ℕ) → ((k : ℕ) → k < n → whole-at s (rule-place s k) ≡ true)
-    → (k at : ℕ) (step : Step) → k < n → at ≡ rule-place s k → step ≡ step-at s at → Yields s k step
+pub yields : {s : List ℕ} {n : ℕ} → ((k : ℕ) → k < n → whole-at s (rule-place s k) ≡ true)
+    → {k at : ℕ} {step : Step} → k < n → at ≡ rule-place s k → step ≡ step-at s at → Yields s k step
 unfolding entry-rule
-yields s n whole k at step h p d =
+yields {s} {n} whole {k} {at} {step} h p d =
     record {
       some = some-rule s k at step p (whole k h) d;
       hands =
           λ e next q.
           let a : AtRule s k e next = at-rule s k at step e next p d q in
           let t : Stepped s at e next = step-rule s at step e next d q in
-          record {
-            fits = a .fits;
-            few = let few : e .size ≤ 8 = rw (t .entry) (whole-facts s at (t .whole) .few) in rw length-take (omega arith);
-            rule = rule-path _ _ (entry-part s e) refl ∙ a .rule;
-            place = a .place;
-          };
+          let few : e .size ≤ 8 = rw (t .entry) (whole-facts s at (t .whole) .few) in
+          record { fits = a .fits; few = rw length-take (omega arith); rule = rule-path _ _ (entry-part s e) refl ∙ a .rule; place = a .place };
     }

@@ -42,9 +42,9 @@ same-part l m a b z p q h =
     (λ j r. let t : j < z = rw (length-part l a z p) at r in getD-part l a z j t ∙ h j t ∙ sym (getD-part m b z j t))
 
 -- where all of them but the link are as before, they say the same
-pub recorded-kept : (ρ : Rule) (k : ℕ) (before ix : List ℕ) → k < 256 → length before ≡ 3712 → length ix ≡ 3712
+pub recorded-kept : {ρ : Rule} (k : ℕ) {before ix : List ℕ} → k < 256 → length before ≡ 3712 → length ix ≡ 3712
     → ((m : ℕ) → 14 * k ≤ m → m < 14 * k + 14 → (m ≡ 14 * k + 5 → ⊥) → getD ix m 0 ≡ getD before m 0) → Recorded ρ before k → Recorded ρ ix k
-recorded-kept ρ k before ix h a b same r =
+recorded-kept {ρ} k {before} {ix} h a b same r =
     recorded ρ ix k _ _ _ _ _ (same (14 * k) (omega arith) (omega arith) (omega arith) ∙ r .right)
     (same (14 * k + 1) (omega arith) (omega arith) (omega arith)) (same (14 * k + 2) (omega arith) (omega arith) (omega arith))
     (same (14 * k + 3) (omega arith) (omega arith) (omega arith)) (same (14 * k + 4) (omega arith) (omega arith) (omega arith))
@@ -53,13 +53,13 @@ recorded-kept ρ k before ix h a b same r =
     (r .shaped) (r .kind) (r .from) (r .to) (r .size)
 
 -- inner roles, one more
-module _ (left : List ℕ) (start k : ℕ) (h : k < 256) where
-  pub copied-none : (ix : List ℕ) → length ix ≡ 3712 → Copied left start k 0 ix ix
-  copied-none ix l = record { size = l; kept = λ m p. refl; inner = λ j p. absurd (let f : ⊥ = omega arith in f) }
+module _ {left : List ℕ} {start k : ℕ} (h : k < 256) where
+  pub copied-none : {ix : List ℕ} → length ix ≡ 3712 → Copied left start k 0 ix ix
+  copied-none l = record { size = l; kept = λ m p. refl; inner = λ j p. absurd (let f : ⊥ = omega arith in f) }
 
-  pub copied-more : (before ix : List ℕ) (i : ℕ) → i < 8 → Copied left start k i before ix
+  pub copied-more : {before ix : List ℕ} {i : ℕ} → i < 8 → Copied left start k i before ix
       → Copied left start k (i + 1) before (set ix (14 * k + 6 + i) (getD left (start + i) 0))
-  copied-more before ix i p t =
+  copied-more {before} {ix} {i} p t =
       record {
         size = rw length-set (t .size);
         kept = λ m q. other m (omega arith) ∙ t .kept m q;
@@ -76,32 +76,16 @@ module _ (left : List ℕ) (start k : ℕ) (h : k < 256) where
       by-place j q (inl e) = rw e (getD-set-same ix (14 * k + 6 + i) _ 0 (omega (arith, t .size)))
       by-place j q (inr e) = other (14 * k + 6 + j) (omega arith) ∙ t .inner j (omega arith)
 
--- five stores in a row
-module _ (ix : List ℕ) (at a b c d e : ℕ) where
-  abbrev pub one : List ℕ
-  one = set ix at a
-
-  abbrev pub two : List ℕ
-  two = set one (at + 1) b
-
-  abbrev pub three : List ℕ
-  three = set two (at + 2) c
-
-  abbrev pub four : List ℕ
-  four = set three (at + 3) d
-
-  abbrev pub five : List ℕ
-  five = set four (at + 4) e
-
 -- the numbers of the shape that is found, with the inner roles, are the rule's
-module _ (left : List ℕ) (right : ℕ) (sh : Shape) (f : sh ≡ shape-found left right) (n : Numbers) (g : n ≡ numbers sh) where
+module _ {left : List ℕ} (right : ℕ) {sh : Shape} (f : sh ≡ shape-found left right) {n : Numbers} (g : n ≡ numbers sh) where
   pub found-says : Says left sh n
   found-says = rw g (numbers-say left sh (found-within left right sh f))
 
-  pub copied-all : length left ≤ 8 → (k : ℕ) → k < 256 → (before ix : List ℕ) → length before ≡ 3712 → (i : ℕ) → n .size ≤ i
-      → Copied left (n .start) k i (five before (14 * k) right (n .kind) (n .from) (n .to) (n .size)) ix
+  pub copied-all : length left ≤ 8 → {k : ℕ} → k < 256 → {before ix : List ℕ} → length before ≡ 3712 → {i : ℕ} → n .size ≤ i
+      → Copied left (n .start) k i
+      (set (set (set (set (set before (14 * k) right) (14 * k + 1) (n .kind)) (14 * k + 2) (n .from)) (14 * k + 3) (n .to)) (14 * k + 4) (n .size)) ix
       → Entered (record { left = left; right = right }) k before ix
-  copied-all h k p before ix l i q t =
+  copied-all h {k} p {before} {ix} l {i} q t =
       record {
         size = t .size;
         kept =
@@ -126,16 +110,16 @@ module _ (left : List ℕ) (right : ℕ) (sh : Shape) (f : sh ≡ shape-found le
       }
     where
       ix₁ : List ℕ
-      ix₁ = one before (14 * k) right (n .kind) (n .from) (n .to) (n .size)
+      ix₁ = set before (14 * k) right
 
       ix₂ : List ℕ
-      ix₂ = two before (14 * k) right (n .kind) (n .from) (n .to) (n .size)
+      ix₂ = set ix₁ (14 * k + 1) (n .kind)
 
       ix₃ : List ℕ
-      ix₃ = three before (14 * k) right (n .kind) (n .from) (n .to) (n .size)
+      ix₃ = set ix₂ (14 * k + 2) (n .from)
 
       ix₄ : List ℕ
-      ix₄ = four before (14 * k) right (n .kind) (n .from) (n .to) (n .size)
+      ix₄ = set ix₃ (14 * k + 3) (n .to)
 
       other-1 : (m : ℕ) → (m ≡ 14 * k + 1 → ⊥) → getD ix₂ m 0 ≡ getD ix₁ m 0
       other-1 m = getD-set-other ix₁ (14 * k + 1) m (n .kind) 0
@@ -150,17 +134,17 @@ module _ (left : List ℕ) (right : ℕ) (sh : Shape) (f : sh ≡ shape-found le
       other-4 m = getD-set-other ix₄ (14 * k + 4) m (n .size) 0
 
 -- rules, one more
-pub entering-none : (s ix : List ℕ) → length ix ≡ 3712 → Entering s 0 ix
-entering-none s ix h = record { size = h; entry = λ k p. absurd (let f : ⊥ = omega arith in f) }
+pub entering-none : {s ix : List ℕ} → length ix ≡ 3712 → Entering s 0 ix
+entering-none h = record { size = h; entry = λ k p. absurd (let f : ⊥ = omega arith in f) }
 
-pub entering-more : (s before ix : List ℕ) (k : ℕ) (ρ : Rule) → k < 256 → ρ ≡ rule-at s (rule-place s k) → Entering s k before → Entered ρ k before ix
+pub entering-more : {s before ix : List ℕ} {k : ℕ} {ρ : Rule} → k < 256 → ρ ≡ rule-at s (rule-place s k) → Entering s k before → Entered ρ k before ix
     → Entering s (k + 1) ix
-entering-more s before ix k ρ h e t n = record { size = n .size; entry = λ j p. by-place j p (eq-or-ne j k) }
+entering-more {s} {before} {ix} {k} {ρ} h e t n = record { size = n .size; entry = λ j p. by-place j p (eq-or-ne j k) }
   where
     by-place : (j : ℕ) → j < k + 1 → (j ≡ k) ⊎ (j ≡ k → ⊥) → Recorded (rule-at s (rule-place s j)) ix j
     by-place j p (inl q) = rw (q, ← e) (n .entry)
     by-place j p (inr q) =
-        recorded-kept _ j before ix (omega arith) (t .size) (n .size) (λ m a b c. n .kept m (omega arith)) (t .entry j (omega arith))
+        recorded-kept j (omega arith) (t .size) (n .size) (λ m a b c. n .kept m (omega arith)) (t .entry j (omega arith))
 
 -- two stores: what stands elsewhere, at the first and at the second
 module _ (ix : List ℕ) (i j v w : ℕ) where
@@ -177,8 +161,8 @@ module _ (ix : List ℕ) (i j v w : ℕ) where
   two-second h = getD-set-same (set ix i v) j w 0 (rw length-set h)
 
 -- names with no rule and their levels, one more
-pub started-none : (levels ix : List ℕ) → length ix ≡ 3712 → Started levels 0 ix ix
-started-none levels ix h =
+pub started-none : {levels ix : List ℕ} → length ix ≡ 3712 → Started levels 0 ix ix
+started-none h =
     record {
       size = h;
       kept = λ i p. refl;
@@ -186,9 +170,9 @@ started-none levels ix h =
       level = λ x p. absurd (let f : ⊥ = omega arith in f);
     }
 
-pub started-more : (levels before ix : List ℕ) (x : ℕ) → x < 64 → Started levels x before ix
+pub started-more : {levels before ix : List ℕ} {x : ℕ} → x < 64 → Started levels x before ix
     → Started levels (x + 1) before (set (set ix (3584 + x) 256) (3648 + x) (getD levels x 0))
-started-more levels before ix x h l =
+started-more {levels} {before} {ix} {x} h l =
     record {
       size = length-two ix _ _ _ _ ∙ l .size;
       kept = λ i p. elsewhere i (omega arith) (omega arith) ∙ l .kept i p;
@@ -211,7 +195,7 @@ started-more levels before ix x h l =
     level-of y p (inr e) = elsewhere (3648 + y) (omega arith) (omega arith) ∙ l .level y (omega arith)
 
 -- links: none past the last rule, and one rule more, in front of the others of its right name
-module _ (ρs : List Rule) (n : ℕ) (before : List ℕ) (l : Linkable ρs n before) where
+module _ {ρs : List Rule} {n : ℕ} {before : List ℕ} (l : Linkable ρs n before) where
   few : length ρs ≤ 256
   few = rw (← l .count) (l .few)
 
@@ -225,7 +209,7 @@ module _ (ρs : List Rule) (n : ℕ) (before : List ℕ) (l : Linkable ρs n bef
         next = λ j p q. absurd (let z : ⊥ = omega (arith, l .count) in z);
       }
 
-  module _ (ix : List ℕ) (after : ℕ) (some : 0 < after) (top : after ≤ n) (t : Linking ρs after before ix) where
+  module _ {ix : List ℕ} {after : ℕ} (some : 0 < after) (top : after ≤ n) (t : Linking ρs after before ix) where
     h : after - 1 < length ρs
     h = omega (arith, l .count)
 
@@ -237,7 +221,7 @@ module _ (ρs : List Rule) (n : ℕ) (before : List ℕ) (l : Linkable ρs n bef
     pub role-small : right-in ix (after - 1) < 128
     role-small = rw role (l .small (after - 1) (omega arith))
 
-    module _ (x : ℕ) (q : x ≡ name (right-in ix (after - 1))) where
+    module _ {x : ℕ} (q : x ≡ name (right-in ix (after - 1))) where
       e : x ≡ name (rule ρs (after - 1) .right)
       e = q ∙ ap name role
 

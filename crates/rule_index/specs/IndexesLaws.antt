@@ -1,7 +1,7 @@
 -- The answer whole: a refused book and numbers of another length are left alone, and the three steps of filling together are the index.
 use mathlib.Core.List.{List, List·Memᴰ, List·Memᴰ·tail}
 use mathlib.Core.Path.{_≡_, refl, sym, ap, _∙_}
-use Prim.Native.Nat.{ℕ, _+_, _*_, _<_, _≤_}
+use Prim.Native.Nat.{ℕ, _<_, _≤_}
 use native.Mathlib.Omega.{arith}
 use lib.ListN.{length, getD}
 use Rattle.roles.specs.Role.{name}
@@ -72,8 +72,8 @@ module _ (s : List ℕ) (b : Book) (i : read s ≡ ok b) where
   module _ (levels entered started : List ℕ) (e : Entering s (length (b .rules)) entered) (t : Started levels 64 entered started) where
     entry : (k : ℕ) → k < length (b .rules) → Recorded (rule (b .rules) k) started k
     entry k p =
-        recorded-kept _ k entered started (omega (arith, few-rules)) (e .size) (t .size) (λ m v w u. t .kept m (omega (arith, few-rules)))
-        (rw (rule-there k p) (e .entry k p))
+        let r : Recorded (rule (b .rules) k) entered k = rw (rule-there k p) (e .entry k p) in
+        recorded-kept k (omega (arith, few-rules)) (e .size) (t .size) (λ m v w u. t .kept m (omega (arith, few-rules))) r
 
     ready : Linkable (b .rules) (length (b .rules)) started
     ready =
@@ -99,7 +99,7 @@ module _ (s : List ℕ) (b : Book) (i : read s ≡ ok b) where
             named = names;
             entry =
                 λ j p.
-                recorded-kept _ j started ix (omega (arith, few-rules)) (t .size) (k .size)
+                recorded-kept j (omega (arith, few-rules)) (t .size) (k .size)
                 (λ m u v w. k .kept m (omega (arith, few-rules)) (λ g q. w (omega arith))) (entry j p);
             next = λ j p. k .next j (omega arith) p;
             first = k .first;
@@ -113,9 +113,9 @@ module _ (s : List ℕ) (b : Book) (i : read s ≡ ok b) where
       few-levels x p = rw (level x (omega (arith, read-few-names s b i))) (l .few x p)
 
 -- the answer, by the answer of the order check
-module _ (s : List ℕ) (r : Ordering) (o : Ordered s r) where
-  pub indexes-refused : (old : List ℕ) (c n : ℕ) → says (r .verdict) ≡ refused c n → Indexes s old old (r .verdict)
-  indexes-refused old c n e =
+module _ {s : List ℕ} {r : Ordering} (o : Ordered s r) where
+  pub indexes-refused : {old : List ℕ} {c n : ℕ} → says (r .verdict) ≡ refused c n → Indexes s old old (r .verdict)
+  indexes-refused {old} {c} {n} e =
       record {
         verdict = o .verdict;
         kept = λ _ _ _. refl;
@@ -124,7 +124,7 @@ module _ (s : List ℕ) (r : Ordering) (o : Ordered s r) where
         few = λ b q. absurd (refused-ok c n (header-of b) (sym e ∙ o .verdict ∙ ap (map-result header-of) q));
       }
 
-  module _ (h : Header) (w : r .verdict ≡ WellFormed h) where
+  module _ {h : Header} (w : r .verdict ≡ WellFormed h) where
     e : ok h ≡ map-result header-of (ordered s)
     e = sym (ap says w) ∙ o .verdict
 
@@ -144,8 +144,8 @@ module _ (s : List ℕ) (r : Ordering) (o : Ordered s r) where
     pub levels-small : (x : ℕ) → x < 64 → getD (r .levels) x 0 < 64
     levels-small = o .levels (passed .0) (passed .1) .small
 
-    pub indexes-other : (old : List ℕ) → (length old ≡ 3712 → ⊥) → Indexes s old old (WellFormed h)
-    indexes-other old x =
+    pub indexes-other : {old : List ℕ} → (length old ≡ 3712 → ⊥) → Indexes s old old (WellFormed h)
+    indexes-other x =
         record {
           verdict = e;
           kept = λ _ _ _. refl;
@@ -154,16 +154,16 @@ module _ (s : List ℕ) (r : Ordering) (o : Ordered s r) where
           few = λ b q p. absurd (x p);
         }
 
-    module _ (entered started : List ℕ) (n : Entering s (h .rules) entered) (t : Started (r .levels) 64 entered started) where
+    module _ {entered started : List ℕ} (n : Entering s (h .rules) entered) (t : Started (r .levels) 64 entered started) where
       linkable-book : (b : Book) (q : ordered s ≡ ok b) → Linkable (b .rules) (h .rules) started
       linkable-book b q = rw (rules b q) (ready s b (ordered-read s b q) (r .levels) entered started (rw (rules b q) at n) t)
 
       pub linkable : (ρs : List Rule) × Linkable ρs (h .rules) started
       linkable = (passed .0 .rules, linkable-book (passed .0) (passed .1))
 
-      pub indexes-filled : (old : List ℕ) → length old ≡ 3712 → (new : List ℕ) → ((ρs : List Rule) → Linkable ρs (h .rules) started → Linking ρs 0 started new)
+      pub indexes-filled : {old : List ℕ} → length old ≡ 3712 → {new : List ℕ} → ((ρs : List Rule) → Linkable ρs (h .rules) started → Linking ρs 0 started new)
           → Indexes s old new (WellFormed h)
-      indexes-filled old z new k =
+      indexes-filled {old} z {new} k =
           record {
             verdict = e;
             kept = λ c v q. absurd (refused-ok c v h (sym (e ∙ ap (map-result header-of) q)));

@@ -6,9 +6,6 @@ use Rattle.book_decoder.specs.VerdictLaws.{read-refused}
 use Rattle.book_reader.proofs.read.Statement.{statement}
 use Rattle.book_reader.proofs.read.Tie as tie
 
-enum-told : tie.Need-enum-told
-enum-told c = search needs
-
 returns : tie.Need-returns
 returns c = ap says (c .enum-told .given .1) ∙ read-refused _ _ _ (sym (ap says (c .enum-told .given .1)) ∙ c .before .before .decode .ensures)
 
@@ -21,7 +18,7 @@ read-spec =
     (tie.spec
     (λ c κs. search needs)
     (λ c. search needs)
-    enum-told
+    (λ c. search needs)
     returns
     distinct-requires
     (λ c. search needs))

@@ -18,37 +18,19 @@ abbrev μ-loop : tie.MeasureT-loop
 
 -- the step of a turn yields rule `k`
 turn : (c : tie.After-step Inv-loop μ-loop) → Yields (c .before .before .before .before .before .before .args .book .now) (c .before .before .loop .k) (c .step .result)
-turn c = yields _ _ (c .before .before .before .before .before .before .pre .0 .whole) _ _ _ (c .before .loop-test .taken) (c .before .before .loop .inv .1) (c .step .ensures)
+turn c = yields (c .before .before .before .before .before .before .pre .0 .whole) (c .before .loop-test .taken) (c .before .before .loop .inv .1) (c .step .ensures)
 
 handed : (c : tie.After-entry Inv-loop μ-loop) → Hands (c .before .before .before .before .before .before .before .before .args .book .now) (c .before .before .before .before .loop .k) (c .entry .given .0 .0) (c .entry .given .0 .1 .0)
 handed c = turn (c .before .before) .hands _ _ (c .entry .given .1)
 
 loop-holds : tie.Need-loop-holds Inv-loop μ-loop
 unfolding rule-place
-loop-holds c = (omega arith, c .first .ensures, entering-none _ _ (c .before .before .before .pre .1))
-
-same-length : tie.Need-same-length Inv-loop μ-loop
-same-length c = c .before .before .before .before .loop .inv .2 .size ∙ sym (c .before .before .before .before .before .before .before .before .pre .1)
-
-returns : tie.Need-returns Inv-loop μ-loop
-returns c = absurd (turn (c .before .before) .some (c .enum-told .given .1))
-
-add-end : tie.Need-add-end Inv-loop μ-loop
-add-end c = omega (arith, handed (c .before .before) .fits, c .before .before .before .before .before .before .before .before .before .before .good)
-
-part-enter-rule-end : tie.Need-part-enter-rule-end Inv-loop μ-loop
-part-enter-rule-end c = handed (c .before .before) .fits
-
-enter-rule-requires : tie.Need-enter-rule-requires Inv-loop μ-loop
-enter-rule-requires c κs = (handed (c .before .before .before .before) .few, omega (arith, c .before .before .before .before .before .before .before .before .before .before .before .before .pre .0 .few), c .before .before .before .before .before .before .before .before .loop .inv .2 .size)
+loop-holds c = (omega arith, c .first .ensures, entering-none (c .before .before .before .pre .1))
 
 loop-again : tie.Need-loop-again Inv-loop μ-loop
 loop-again c =
     let h = handed (c .before .before .before .before .before .before .before) in
-    (omega arith, h .place, entering-more _ _ _ _ _ (omega (arith, c .before .before .before .before .before .before .before .before .before .before .before .before .before .before .before .pre .0 .few)) (h .rule) (c .before .before .before .before .before .before .before .before .before .before .before .loop .inv .2) (c .before .before .enter-rule .ensures))
-
-same-length-2 : tie.Need-same-length-2 Inv-loop μ-loop
-same-length-2 c = c .before .loop .inv .2 .size ∙ sym (c .before .before .before .before .before .pre .1)
+    (omega arith, h .place, entering-more (omega (arith, c .before .before .before .before .before .before .before .before .before .before .before .before .before .before .before .pre .0 .few)) (h .rule) (c .before .before .before .before .before .before .before .before .before .before .before .loop .inv .2) (c .before .before .enter-rule .ensures))
 
 returns-2 : tie.Need-returns-2 Inv-loop μ-loop
 returns-2 c = let e : c .before .before .before .before .before .args .rules ≡ c .before .loop .k = omega arith in rw e (c .before .loop .inv .2)
@@ -64,15 +46,15 @@ enter-spec =
     (λ c κs. search needs)
     (λ c. search needs)
     (λ c. search needs)
-    same-length
-    returns
-    add-end
+    (λ c. c .before .before .before .before .loop .inv .2 .size ∙ sym (c .before .before .before .before .before .before .before .before .pre .1))
+    (λ c. absurd (turn (c .before .before) .some (c .enum-told .given .1)))
+    (λ c. omega (arith, handed (c .before .before) .fits, c .before .before .before .before .before .before .before .before .before .before .good))
     (λ c. search needs)
     (λ c. search needs)
-    part-enter-rule-end
-    enter-rule-requires
+    (λ c. handed (c .before .before) .fits)
+    (λ c κs. (handed (c .before .before .before .before) .few, omega (arith, c .before .before .before .before .before .before .before .before .before .before .before .before .pre .0 .few), c .before .before .before .before .before .before .before .before .loop .inv .2 .size))
     (λ c. search needs)
     (λ c. search needs)
     loop-again
-    same-length-2
+    (λ c. c .before .loop .inv .2 .size ∙ sym (c .before .before .before .before .before .pre .1))
     returns-2)

@@ -15,18 +15,6 @@ Inv-loop levels index₀ x₀ index x = (x ≤ 64) × Started levels x index₀ 
 abbrev μ-loop : tie.MeasureT-loop
 μ-loop levels index₀ x₀ index x = 64 - x
 
-loop-holds : tie.Need-loop-holds Inv-loop μ-loop
-loop-holds c = (omega arith, started-none _ _ (c .pre .0))
-
-slice-write-index-2 : tie.Need-slice-write-index-2 Inv-loop μ-loop
-slice-write-index-2 c = simp length-set (omega arith)
-
-loop-again : tie.Need-loop-again Inv-loop μ-loop
-loop-again c = (omega arith, started-more _ _ _ _ (c .before .loop-test .taken) (c .before .before .loop .inv .1))
-
-same-length : tie.Need-same-length Inv-loop μ-loop
-same-length c = c .before .loop .inv .1 .size ∙ sym (c .before .before .pre .0)
-
 returns : tie.Need-returns Inv-loop μ-loop
 returns c = let e : 64 ≡ c .before .loop .x = omega arith in rw e (c .before .loop .inv .1)
 
@@ -36,7 +24,7 @@ start-spec =
     (tie.spec
     Inv-loop
     μ-loop
-    loop-holds
+    (λ c. (omega arith, started-none (c .pre .0)))
     (λ c. search needs)
     (λ c. search needs)
     (λ c. search needs)
@@ -44,9 +32,9 @@ start-spec =
     (λ c. omega (arith, c .before .before .before .pre .1 (c .before .before .loop .x) (c .before .loop-test .taken)))
     (λ c. search needs)
     (λ c. search needs)
-    slice-write-index-2
+    (λ c. simp length-set (omega arith))
     (λ c. search needs)
     (λ c. search needs)
-    loop-again
-    same-length
+    (λ c. (omega arith, started-more (c .before .loop-test .taken) (c .before .before .loop .inv .1)))
+    (λ c. c .before .loop .inv .1 .size ∙ sym (c .before .before .pre .0))
     returns)

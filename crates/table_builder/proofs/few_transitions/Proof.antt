@@ -3,11 +3,5 @@ use borrow.Author.Tests.{le-leb, lt-leb}
 use Rattle.table_builder.proofs.few_transitions.Statement.{statement}
 use Rattle.table_builder.proofs.few_transitions.Tie as tie
 
-returns : tie.Need-returns
-returns c = simp (lt-leb _ _ (c .if1 .taken))
-
-returns-2 : tie.Need-returns-2
-returns-2 c = simp (le-leb _ _ (c .if1 .left))
-
 pub few-transitions-spec : {M : Type 1} → statement M
-few-transitions-spec = tie.close (tie.spec returns returns-2)
+few-transitions-spec = tie.close (tie.spec (λ c. simp (lt-leb _ _ (c .if1 .taken))) (λ c. simp (le-leb _ _ (c .if1 .left))))

@@ -1,7 +1,7 @@
 -- `end` meets its contract: the buffer of a line keeps its length.
 use mathlib.Core.Path.{sym}
 use borrow.Author.Needs.{needs}
-use Rattle.transcript_writer.specs.PutsLaws.{puts-length}
+use Rattle.line_writer.specs.PutsLaws.{puts-length}
 use Rattle.examples_program.proofs.blocks.end.Statement.{statement}
 use Rattle.examples_program.proofs.blocks.end.Tie as tie
 

@@ -5,15 +5,6 @@ use Rattle.rule_index.specs.ShapeNumbers.{numbers}
 use Rattle.rule_index.proofs.numbers.numbers_of.Statement.{statement}
 use Rattle.rule_index.proofs.numbers.numbers_of.Tie as tie
 
-returns : tie.Need-returns
-returns c = c .bare .ensures ∙ sym (ap numbers (c .before .enum-told .given .1))
-
-returns-2 : tie.Need-returns-2
-returns-2 c = c .bare2 .ensures ∙ sym (ap numbers (c .before .enum-told2 .given .1))
-
-returns-3 : tie.Need-returns-3
-returns-3 c = sym (ap numbers (c .before .before .before .shape .given .1))
-
 pub numbers-of-spec : {M : Type 1} → statement M
 numbers-of-spec =
     tie.close
@@ -25,6 +16,6 @@ numbers-of-spec =
     (λ c. search needs)
     (λ c. search needs)
     (λ c. search needs)
-    returns
-    returns-2
-    returns-3)
+    (λ c. c .bare .ensures ∙ sym (ap numbers (c .before .enum-told .given .1)))
+    (λ c. c .bare2 .ensures ∙ sym (ap numbers (c .before .enum-told2 .given .1)))
+    (λ c. sym (ap numbers (c .before .before .before .shape .given .1))))

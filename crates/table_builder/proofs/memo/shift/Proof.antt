@@ -14,9 +14,6 @@ Inv-loop start size count by moves₀ j₀ moves j = Shifting start size count b
 abbrev μ-loop : tie.MeasureT-loop
 μ-loop start size count by moves₀ j₀ moves j = size - j
 
-loop-holds : tie.Need-loop-holds Inv-loop μ-loop
-loop-holds c = shifting-start _ _ _ _ _
-
 add-from : tie.Need-add-from Inv-loop μ-loop
 add-from c = omega (arith, c .loop-test .taken, c .before .before .before .pre .0)
 
@@ -63,7 +60,7 @@ shift-spec =
     (tie.spec
     Inv-loop
     μ-loop
-    loop-holds
+    (λ c. shifting-start _ _ _ _ _)
     add-from
     mul-from
     add-to
