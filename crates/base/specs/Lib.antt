@@ -1,4 +1,4 @@
-pub mod Decides
+pub mod Reflects
 pub mod Every
 pub mod Truth
 pub mod Pigeonhole
@@ -6,3 +6,4 @@ pub mod Result
 pub mod ResultLaws
 pub mod Part
 pub mod Decision
+pub mod Writing

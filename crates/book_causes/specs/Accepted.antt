@@ -10,6 +10,7 @@ use Rattle.roles.specs.Rule.{Book}
 use Rattle.tables.specs.Tables.{initial-states, transitions, state-count, numbers}
 use Rattle.base.specs.Result.{Result, demand, and-then}
 use Rattle.base.specs.Result.Result.{refused, ok}
+use Rattle.base.specs.Writing.{over}
 use Rattle.book_format.specs.Format.{decode, read}
 use Rattle.book_causes.specs.Source.{sourced-book}
 
@@ -55,10 +56,6 @@ built s heads moves = and-then (decode s) (built-book heads moves)
 pub record Building (s : List ℕ) (heads moves : ℕ) (b d : Book) : Type 0 where
   pub written : read s ≡ ok b
   pub source : built s heads moves ≡ ok d
-
--- new numbers over the front of old ones
-abbrev pub over : List ℕ → List ℕ → List ℕ
-over new old = new ++ drop (length new) old
 
 -- what a lent table holds after the build: the new numbers and the old ones after them; the old ones alone where the build is refused
 abbrev pub written : Result Book → (Book → List ℕ) → List ℕ → List ℕ

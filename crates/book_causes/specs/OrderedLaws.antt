@@ -10,7 +10,7 @@ use Rattle.roles.specs.Rule.{Rule, Book}
 use Rattle.order.specs.Regular.{Regular}
 use Rattle.order.specs.Closure.{no-order, with-rule, clashes}
 use Rattle.order.specs.ClosureLaws.{Closed, closed-none, closed-with}
-use Rattle.order.specs.Decide.{closed-regular, clash-irregular, regular-front}
+use Rattle.order.specs.Regularity.{closed-regular, clash-irregular, regular-front}
 use Rattle.base.specs.Result.{demand}
 use Rattle.book_causes.specs.Ordered.{order-from, Judged}
 use Rattle.book_causes.specs.Ordered.Judged.{has-order, none}

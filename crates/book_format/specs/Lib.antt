@@ -1,7 +1,7 @@
 pub mod Format
 pub mod Place
 pub mod FormatLaws
-pub mod RunLaws
+pub mod RuleLoopLaws
 pub mod DecodeLaws
 pub mod RepeatLaws
 pub mod DeclaredLaws

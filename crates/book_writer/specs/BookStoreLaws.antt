@@ -10,14 +10,10 @@ use borrow.Author.Tests.{le-leb, lt-leb}
 use lib.Dec.{leb}
 use lib.ListN.{length, getD, take, set}
 use lib.Seq.{sets, take-suc, take-all, length-take-le}
+use Rattle.base.specs.Writing.{sets-append}
 use Rattle.roles.specs.Rule.{Rule}
 use Rattle.book_format.specs.Encode.{header, rule-bytes}
 use Rattle.book_writer.specs.BookStores.{has-room, put-rule, after-rule, RulePut, put-header}
-
--- stores after stores
-pub sets-append : (s : List ℕ) (i : ℕ) (v w : List ℕ) → sets (sets s i v) (i + length v) w ≡ sets s i (v ++ w)
-sets-append s i [] w = rw add-zero refl
-sets-append s i (x ∷ v) w = let e : i + suc (length v) ≡ suc i + length v = omega arith in rw e (sets-append (set s i x) (suc i) v w)
 
 -- a copy of i elements, and one more, and all
 module _ (s : List ℕ) (at : ℕ) (part : List ℕ) (s′ : List ℕ) (i : ℕ) (e : s′ ≡ sets s at (take i part)) where

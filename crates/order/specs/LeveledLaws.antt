@@ -18,7 +18,7 @@ use Rattle.order.specs.Regular.{holds, Regular}
 use Rattle.order.specs.RoleOrder.{lower-of, turning, name-order}
 use Rattle.order.specs.Leveled.{Lower, NameOrder, Fits, Leveled}
 use Rattle.order.specs.Closure.{inner-of}
-use Rattle.order.specs.Decide.{order-closed}
+use Rattle.order.specs.Regularity.{order-closed}
 use Rattle.name_sets.specs.Mask.{count}
 use Rattle.name_sets.specs.MaskLaws.{count-lt}
 

@@ -6,6 +6,6 @@ pub mod Leveled
 pub mod RoleOrder
 pub mod Closure
 pub mod ClosureLaws
-pub mod Decide
+pub mod Regularity
 pub mod LeveledLaws
 pub mod ShapeTests

@@ -41,7 +41,7 @@ abbrev pub holds : (ℕ → ℕ → Bool) → ℕ → ℕ → Type 0
 holds below s r = below s r ≡ true
 
 -- there is a regular order under which each rule has one of the forms. The relation is one that gives truth values, so that a contract can
--- say this; `Decide` shows that where there is none, there is none of any other kind either
+-- say this; `Regularity` shows that where there is none, there is none of any other kind either
 pub record Regular (ρs : List Rule) : Type 0 where
   pub below : ℕ → ℕ → Bool
   pub order : RegularOrder (holds below)

@@ -5,7 +5,7 @@ use Prim.Native.Nat.{ℕ, _<_}
 use lib.ListN.{length, getD, replicate}
 use Rattle.roles.specs.Rule.{Book}
 use Rattle.name_sets.specs.Mask.{has, count}
-use Rattle.order_masks.specs.LevelLaws.{levels-small, levels-few, levels-fit}
+use Rattle.order_masks.specs.MaskLevels.{levels-small, levels-few, levels-fit}
 use Rattle.base.specs.Result.{Result, map-result}
 use Rattle.base.specs.Result.Result.{refused, ok}
 use Rattle.base.specs.ResultLaws.{refused-ok}

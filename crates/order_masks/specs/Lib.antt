@@ -1,4 +1,4 @@
 pub mod AbsorbLaws
 pub mod CountLaws
-pub mod LevelLaws
+pub mod MaskLevels
 pub mod ReachLaws

@@ -11,7 +11,7 @@ use lib.Seq.{getD-drop, drop-drop, take-suc-set, drop-set-lt}
 use Rattle.words.specs.Word.{word}
 use Rattle.words.specs.WordLaws.{word-drop}
 use mir.Val.{boolByte}
-use Rattle.base.specs.Decides.{Decides}
+use Rattle.base.specs.Reflects.{Reflects}
 use Rattle.base.specs.Result.Result.{refused, ok}
 use Rattle.roles.specs.Role.{name}
 use Rattle.query_causes.specs.Query.{tables-fit, question, query, Accepts, Answered}
@@ -218,6 +218,6 @@ module _ {heads moves : List ℕ} {names stamp : ℕ} {space : List ℕ} (ready 
                 fit = λ more. (f .0, f .1, left .indexed);
               }
 
-          pub asked-decided : (b : Bool) → Decides b (Accepts heads moves role chain) → Asked heads moves names q read size (boolByte b) (stamp + size) space′
+          pub asked-decided : (b : Bool) → Reflects b (Accepts heads moves role chain) → Asked heads moves names q read size (boolByte b) (stamp + size) space′
           asked-decided true d = record { answered = yes (query-is ∙ fits) (d .holds refl); ready = ready-after }
           asked-decided false d = record { answered = no (query-is ∙ fits) (d .fails refl); ready = ready-after }

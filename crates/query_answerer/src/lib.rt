@@ -2,7 +2,7 @@
 // the question.
 ghost use Prim.Native.Nat.{_+_, _<_};
 ghost use Rattle.query_causes.specs.Query.{asked, Answered};
-ghost use Rattle.base.specs.Decides.{Decides};
+ghost use Rattle.base.specs.Reflects.{Reflects};
 ghost use Rattle.query_simulation.specs.Transitions.{Fit};
 ghost use Rattle.query_simulation.specs.TransitionIndex.{Prepared};
 ghost use Rattle.query_simulation.specs.Reading.{Letters, Leads, Askable};
@@ -53,7 +53,7 @@ pub fn ask(heads: &[u16], moves: &[u16], role: u8, chain: &[u8]) -> Answer
 // small array, which takes less time to clear.
 fn accepts(moves: &[u16], role: u8, chain: &[u8], head: usize) -> bool
     requires { ⌜ Askable (now moves) head (now chain) ⌝ }
-    ensures { λ r. ⌜ Decides r (Leads (now (moves .entry)) head (asked role (now (chain .entry))) (head + 1)) ⌝ }
+    ensures { λ r. ⌜ Reflects r (Leads (now (moves .entry)) head (asked role (now (chain .entry))) (head + 1)) ⌝ }
 {
     if is_small(moves, head) {
         let mut few = [0u16; 512];
@@ -76,7 +76,7 @@ fn decide(
     requires { ⌜ Prepared room 1 (now moves) 0 (now space) ⌝ }
     requires { ⌜ Letters (now chain) ⌝ }
     requires { ⌜ head + 1 < room ⌝ }
-    ensures { λ r. ⌜ Decides r (Leads (now (moves .entry)) head (asked role (now (chain .entry))) (head + 1)) ⌝ }
+    ensures { λ r. ⌜ Reflects r (Leads (now (moves .entry)) head (asked role (now (chain .entry))) (head + 1)) ⌝ }
 {
     fill_index(moves, room, space);
     run(moves, room, role, chain, head, 1, space)

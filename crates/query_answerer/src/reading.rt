@@ -3,7 +3,7 @@ ghost use mathlib.Core.Path.{_≡_};
 ghost use Prim.Native.Nat.{_+_, _*_, _<_};
 ghost use lib.ListN.{length, getD};
 ghost use Rattle.query_causes.specs.Query.{asked};
-ghost use Rattle.base.specs.Decides.{Decides};
+ghost use Rattle.base.specs.Reflects.{Reflects};
 ghost use Rattle.query_simulation.specs.Transitions.{transition-count};
 ghost use Rattle.query_simulation.specs.TransitionIndex.{Prepared, Active, Met, Spread};
 ghost use Rattle.query_simulation.specs.Reading.{Readable, Leads, Closing, Steps, Stepped};
@@ -23,7 +23,7 @@ pub(crate) fn run(
     space: &mut [u16],
 ) -> bool
     requires { ⌜ Readable (now moves) room stamp head (now chain) (now space) ⌝ }
-    ensures { λ r. ⌜ Decides r (Leads (now (moves .entry)) head (asked role (now (chain .entry))) (head + 1)) ⌝ }
+    ensures { λ r. ⌜ Reflects r (Leads (now (moves .entry)) head (asked role (now (chain .entry))) (head + 1)) ⌝ }
     ensures { λ _. ⌜ Prepared room (stamp + length (now (chain .entry)) + 1) (now (moves .entry)) (transition-count (now (moves .entry))) (now (space .exit)) ⌝ }
 {
     let started = put(space, room, 0, stamp, 0, head);

@@ -1,5 +1,5 @@
 pub mod Within
-pub mod Answers
+pub mod BookAnswers
 pub mod Reply
 pub mod ReplyLaws
 pub mod OneReply

@@ -18,7 +18,7 @@ use Rattle.book_causes.specs.OrderedRun.{ordered-read}
 use Rattle.book_causes.specs.Accepted.{heads-of, moves-of, built}
 use Rattle.book_causes.specs.AcceptedLaws.{accepted-passed, built-accepted, building}
 use Rattle.query_causes.specs.Query.{chain-fits, question, Answered}
-use Rattle.query_correctness.specs.Answers.{query-question, accepts-derives}
+use Rattle.query_correctness.specs.BookAnswers.{query-question, accepts-derives}
 use Rattle.query_correctness.specs.Reply.{Decided, Replied, posed}
 use Rattle.base.specs.Decision.Decision.{refuses, yes, no}
 use Rattle.query_correctness.specs.Reply.Replied.{refuses as refused-by-book, settled}

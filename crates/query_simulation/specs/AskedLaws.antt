@@ -8,7 +8,7 @@ use lib.ListN.{length, getD}
 use Rattle.roles.specs.Role.{Chain, polarity, inv}
 use Rattle.roles.specs.RoleLaws.{getD-inv-chain, length-turn, turn-below}
 use Rattle.query_causes.specs.Query.{asked}
-use Rattle.base.specs.Decides.{Decides}
+use Rattle.base.specs.Reflects.{Reflects}
 use Rattle.query_simulation.specs.StatesLaws.{marked-decides}
 use Rattle.query_simulation.specs.Reading.{Letters, Leads, Stepped, Read}
 use Rattle.query_simulation.specs.ReadingLaws.{read-more, read-decides}
@@ -40,7 +40,7 @@ module _ (r : ℕ) (w : Chain) where
 
   -- every link is read: the stamp tells
   pub read-asked : {moves : List ℕ} {room stamp list p i : ℕ} {s : List ℕ} {count : ℕ} (u : ℕ) → Read moves room stamp list p (asked r w) i s count → i ≡ length w
-      → u < room → Decides (eqb (getD s (2 * room + u) 0) stamp) (Leads moves p (asked r w) u)
+      → u < room → Reflects (eqb (getD s (2 * room + u) 0) stamp) (Leads moves p (asked r w) u)
   read-asked {p = p} {i = i} u all e small =
       let f : i ≡ length (asked r w) = rw length-asked e in
       read-decides p (asked r w) (rw f at all) u (marked-decides (all .good) u small)

@@ -14,7 +14,7 @@ use Rattle.tables.specs.Tables.{epsilon}
 use Rattle.tables.specs.Path.{Path}
 use Rattle.tables.specs.Path.Path.{stop, skip, read}
 use Rattle.query_causes.specs.Query.{transitions-in}
-use Rattle.base.specs.Decides.{Decides}
+use Rattle.base.specs.Reflects.{Reflects}
 use Rattle.query_simulation.specs.States.{States, Member, Put}
 use Rattle.query_simulation.specs.StatesLaws.{states-none, added-none, added-on, added-as, still-member, behind-on, unused-after}
 use Rattle.query_simulation.specs.Transitions.{transition-count, Arrow}
@@ -173,7 +173,7 @@ module _ {moves : List ℕ} {room stamp list : ℕ} (p : ℕ) (w : Chain) where
     at-end v q u m e (skip {q = r} x path) = at-end v r u (all .closed (m .place) (m .inside) r (rw (m .here) x)) e path
     at-end v q u m e (read l x path) = absurd (let z : _≡_ {A = ℕ} 0 1 = cc in let f : ⊥ = omega arith in f)
 
-    pub read-decides : (u : ℕ) {b : Bool} → Decides b (Member s list count u) → Decides b (Leads moves p w u)
+    pub read-decides : (u : ℕ) {b : Bool} → Reflects b (Member s list count u) → Reflects b (Leads moves p w u)
     read-decides u d = record { holds = λ h. back (d .holds h); fails = λ h path. d .fails h (forth path) }
       where
         back : Member s list count u → Leads moves p w u

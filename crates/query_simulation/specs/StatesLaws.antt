@@ -9,7 +9,7 @@ use lib.Dec.{eqb}
 use lib.ListN.{length, getD, set, replicate, length-set, length-replicate, getD-replicate}
 use lib.Seq.{getD-set-same, getD-set-other, drop-set-lt}
 use Rattle.base.specs.Truth.{lt-or-le, eq-or-ne}
-use Rattle.base.specs.Decides.{Decides}
+use Rattle.base.specs.Reflects.{Reflects}
 use Rattle.base.specs.Pigeonhole.{pigeonhole}
 use Rattle.query_simulation.specs.States.{Member, States, Unused, Behind, Cleared, Renewed, Added, Put}
 
@@ -84,7 +84,7 @@ module _ {room stamp : ℕ} {s : List ℕ} {list count : ℕ} (good : States roo
   not-marked q h m = h (ap (λ (x : ℕ). getD s (2 * room + x) 0) (sym (m .here)) ∙ good .marked (m .place) (m .inside))
 
   -- the stamp tells
-  pub marked-decides : (q : ℕ) → q < room → Decides (eqb (getD s (2 * room + q) 0) stamp) (Member s list count q)
+  pub marked-decides : (q : ℕ) → q < room → Reflects (eqb (getD s (2 * room + q) 0) stamp) (Member s list count q)
   marked-decides q l =
       record {
         holds = λ h. good .known q l (eqb-true (getD s (2 * room + q) 0) stamp h);

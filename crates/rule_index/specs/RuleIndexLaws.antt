@@ -11,7 +11,7 @@ use Rattle.roles.specs.Role.{Chain, name, inv}
 use Rattle.roles.specs.RoleLaws.{name-inv}
 use Rattle.roles.specs.Rule.{Rule}
 use Rattle.order.specs.Shape.{Shape, shape}
-use Rattle.table_languages.specs.Shapes.{fits-apart}
+use Rattle.table_languages.specs.LeftSides.{fits-apart}
 use Rattle.tables.specs.Tables.{rules-of, own-shapes, has-symmetric, has-transitive}
 use Rattle.table_laying.specs.Own.{facing, Apart-rules, is-symmetric, is-transitive, facing-symmetric, facing-transitive}
 use Rattle.rule_index.specs.RuleLinks.{rule, Link, own-at}

@@ -17,7 +17,7 @@ use Rattle.roles.specs.Named.{Named}
 use Rattle.table_automata.specs.FromRun.{In, language-leads}
 use Rattle.table_automata.specs.Carried.{Property, Split, glue, Agree, agree-self, agree-below, agree-from, Carries, carried, Fits}
 use Rattle.table_automata.specs.Carried.Split.{split}
-use Rattle.table_automata.specs.Rows.{Sound}
+use Rattle.table_automata.specs.CarriedRows.{Sound}
 use Rattle.table_automata.specs.FromPath.{sound-at}
 
 -- nothing follows the final state of a root

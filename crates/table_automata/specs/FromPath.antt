@@ -19,7 +19,7 @@ use Rattle.roles.specs.Named.{Named}
 use Rattle.table_automata.specs.InnerNamed.{InnerBelow, below-shapes, role-letter, inv-letter}
 use Rattle.table_automata.specs.Carried.{Property, transfer, Split, glue, Agree, agree-below, agree-from, Carries, carries-silent, carries-letter, Fits}
 use Rattle.table_automata.specs.Carried.Split.{split}
-use Rattle.table_automata.specs.Rows.{reads-spelled, Sound, in-rows, Follows, rows-carry}
+use Rattle.table_automata.specs.CarriedRows.{reads-spelled, Sound, in-rows, Follows, rows-carry}
 
 -- a run of the machine from one of its two states to its final state, and then what may follow
 module _ (L : ℕ → Property) (r : ℕ) (ss : List Shape) (after : Property) where

@@ -1,6 +1,6 @@
 pub mod InnerNamed
 pub mod FromRun
 pub mod Carried
-pub mod Rows
+pub mod CarriedRows
 pub mod FromPath
 pub mod Accepts

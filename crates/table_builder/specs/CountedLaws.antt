@@ -10,12 +10,13 @@ use borrow.Author.Tests.{leb-true, leb-false}
 use lib.Dec.{leb}
 use lib.ListN.{length, drop}
 use lib.Seq.{sets, sets-eq}
+use Rattle.base.specs.Writing.{sets-over}
 use Rattle.base.specs.Truth.{and-left, and-right, lt-or-le}
 use Rattle.roles.specs.Rule.{Book}
 use Rattle.base.specs.Result.{Result, map-result}
 use Rattle.base.specs.Result.Result.{refused, ok}
 use Rattle.base.specs.ResultLaws.{refused-ok, ok-injective}
-use Rattle.book_causes.specs.Accepted.{states-of, count-of, heads-of, moves-of, accepted, built, over}
+use Rattle.book_causes.specs.Accepted.{states-of, count-of, heads-of, moves-of, accepted, built}
 use Rattle.book_causes.specs.AcceptedLaws.{accepted-states, accepted-count, accepted-ok, accepted-passed, built-refused, built-short, accepted-built, built-accepted}
 use Rattle.book_causes.specs.AcceptedLaws.{enough-heads, enough-moves}
 use Rattle.rule_index.specs.RuleIndex.{level-in}
@@ -37,10 +38,6 @@ builds-refused s h m x e = by-result (built s (length h) (length m)) refl e
     by-result : (r : Result Book) → built s (length h) (length m) ≡ r → says (Refused x) ≡ map-result counts-of r → Builds s h m h m (Refused x)
     by-result (refused c v) f g = record { answer = e; heads = rw f refl; moves = rw f refl }
     by-result (ok b) f g = absurd (refused-ok (build-cause x) (build-value x) (counts-of b) g)
-
--- numbers stored from the front on are the new numbers over the old
-sets-over : (new old : List ℕ) → length new ≤ length old → sets old 0 new ≡ over new old
-sets-over new old h = sets-eq new old 0 (rw zero-add h) ∙ ap (λ (k : ℕ). new ++ drop k old) (zero-add (length new))
 
 -- what each check of causes 9 to 11 settles
 module _ (names : ℕ) (end : Place) (heads moves : ℕ) where

@@ -6,12 +6,13 @@ use Prim.Native.Nat.{ℕ, _*_, _≤_}
 use native.Mathlib.Omega.{arith}
 use lib.ListN.{length, take, drop, length-append, length-drop}
 use lib.Seq.{take-append-seam}
+use Rattle.base.specs.Writing.{over, over-length, over-front}
 use Rattle.roles.specs.Rule.{Book}
 use Rattle.tables.specs.Tables.{transitions}
 use Rattle.base.specs.Result.{Result, map-result}
 use Rattle.base.specs.Result.Result.{refused, ok}
 use Rattle.base.specs.ResultLaws.{refused-ok, ok-injective}
-use Rattle.book_causes.specs.Accepted.{count-of, heads-of, moves-of, accepted, built, over}
+use Rattle.book_causes.specs.Accepted.{count-of, heads-of, moves-of, accepted, built}
 use Rattle.book_causes.specs.AcceptedLaws.{accepted-passed, accepted-built, built-accepted, enough-heads, enough-moves}
 use Rattle.table_laying.specs.Pieces.{length-numbers, length-roots}
 use Rattle.refusals.specs.declared.build.BuildRefusal.{BuildRefusal}
@@ -20,13 +21,6 @@ use Rattle.table_builder.specs.declared.Counts.{Counts}
 use Rattle.table_builder.specs.declared.Outcome.{Outcome}
 use Rattle.table_builder.specs.declared.Outcome.the-variants.{Built, Refused}
 use Rattle.table_builder.specs.Builds.{counts-of, says, Builds}
-
--- new numbers over the front of old ones: as long as these, and the new ones are its front
-over-length : (new old : List ℕ) → length new ≤ length old → length (over new old) ≡ length old
-over-length new old h = omega (arith, length-append new (drop (length new) old), length-drop (length new) old)
-
-pub over-front : (n : ℕ) (new old : List ℕ) → n ≡ length new → take n (over new old) ≡ new
-over-front n new old h = rw h (take-append-seam new (drop (length new) old))
 
 -- the book that a build has counted
 pub record Counted (s h m : List ℕ) (c : Counts) : Type 0 where

@@ -16,10 +16,10 @@ use Rattle.tables.specs.Run.{Spelled, Language}
 use Rattle.tables.specs.Run.Spelled.{none, more}
 use Rattle.tables.specs.Run.Run.{stop, letter, back, through}
 use Rattle.rewriting.specs.Replacing.{Replaces}
-use Rattle.table_languages.specs.Shapes.{Shaped, shape-shaped, completed-fits}
+use Rattle.table_languages.specs.LeftSides.{Shaped, shape-shaped, completed-fits}
 use Rattle.table_languages.specs.RoleShapes.{member-has-symmetric, member-has-transitive, rule-own-shape, shapes-own, shapes-turned}
-use Rattle.table_languages.specs.Runs.{Parts, spelled-map, spelled-append, spelled-cons, spelled-split, one-spelled}
-use Rattle.table_languages.specs.Runs.{run-append, run-row, run-turned, language-more}
+use Rattle.table_languages.specs.MachineRuns.{Parts, spelled-map, spelled-append, spelled-cons, spelled-split, one-spelled}
+use Rattle.table_languages.specs.MachineRuns.{run-append, run-row, run-turned, language-more}
 
 module _ (n : ℕ) (ρs : List Rule) (l : Leveled n ρs) where
   -- what the machine of a role reads at the role's level

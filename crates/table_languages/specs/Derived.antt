@@ -6,7 +6,7 @@ use Rattle.roles.specs.Rule.{Rule}
 use Rattle.roles.specs.Derivation.{Derives}
 use Rattle.order.specs.Leveled.{Leveled}
 use Rattle.tables.specs.Run.{Language}
-use Rattle.table_languages.specs.Runs.{language-more}
+use Rattle.table_languages.specs.MachineRuns.{language-more}
 use Rattle.table_languages.specs.Sound.{run-derives}
 use Rattle.table_languages.specs.Complete.{derives-reads}
 

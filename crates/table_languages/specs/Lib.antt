@@ -1,6 +1,6 @@
-pub mod Shapes
+pub mod LeftSides
 pub mod RoleShapes
-pub mod Runs
+pub mod MachineRuns
 pub mod Sound
 pub mod Complete
 pub mod Derived

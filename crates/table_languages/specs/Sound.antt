@@ -16,9 +16,9 @@ use Rattle.tables.specs.Tables.{own-shapes, shapes}
 use Rattle.tables.specs.Run.{Spelled, Run}
 use Rattle.tables.specs.Run.Spelled.{none, more}
 use Rattle.tables.specs.Run.Run.{stop, letter, second, back, through}
-use Rattle.table_languages.specs.Runs.{spelled-map}
+use Rattle.table_languages.specs.MachineRuns.{spelled-map}
 use Rattle.rewriting.specs.Replacing.{Replaces, replaces-append, replaces-rule, derives-inverse}
-use Rattle.table_languages.specs.Shapes.{Left, left-map, Shaped, shape-shaped}
+use Rattle.table_languages.specs.LeftSides.{Left, left-map, Shaped, shape-shaped}
 use Rattle.table_languages.specs.RoleShapes.{has-symmetric-member, has-transitive-member, own-shape-rule, shapes-cases}
 
 module _ (ρs : List Rule) where

@@ -10,6 +10,7 @@ use native.Mathlib.Numerals.{add-one, add-two}
 use native.Mathlib.Omega.{arith}
 use lib.ListN.{length, getD, set, length-set, length-append}
 use lib.Seq.{sets, length-sets, getD-set-same, getD-set-other}
+use Rattle.base.specs.Writing.{sets-append}
 use Rattle.base.specs.Truth.{lt-or-le}
 use Rattle.roles.specs.Role.{Chain}
 use Rattle.order.specs.Shape.{End, Shape}
@@ -24,12 +25,6 @@ pub record Laid (z : ℕ) (ts : List Transition) (p k : ℕ) (m : List ℕ) (p�
   pub count : p + z ≤ 2048 → k + length ts < 60000 → k′ ≡ k + length ts
   pub full : p + z ≤ 2048 → 60000 ≤ k + length ts → 60000 ≤ k′
   pub exact : p + z ≤ 2048 → k + length ts < 60000 → 3 * (k + length ts) ≤ length m → m′ ≡ sets m (3 * k) (numbers ts)
-
-sets-append : (m : List ℕ) (i : ℕ) (a b : List ℕ) → sets (sets m i a) (i + length a) b ≡ sets m i (a ++ b)
-sets-append m i [] b = rw add-zero refl
-sets-append m i (x ∷ a) b =
-    let e : i + suc (length a) ≡ suc i + length a = omega arith in
-    rw e (sets-append (set m i x) (suc i) a b)
 
 pub laid-none : (p k : ℕ) (m : List ℕ) → Laid 0 [] p k m p k m
 unfolding numbers

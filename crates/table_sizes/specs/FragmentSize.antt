@@ -17,7 +17,7 @@ use Rattle.order.specs.ShapeForms.{turned}
 use Rattle.order.specs.Leveled.{Fits, Leveled}
 use Rattle.order.specs.Closure.{inner-of}
 use Rattle.tables.specs.Tables.{own-shapes, shapes, has-symmetric, row-size, rows-size, size-of}
-use Rattle.table_languages.specs.Shapes.{fits-apart, completed-fits}
+use Rattle.table_languages.specs.LeftSides.{fits-apart, completed-fits}
 use Rattle.table_languages.specs.RoleShapes.{own-shape-rule}
 use Rattle.table_laying.specs.Own.{facing, is-symmetric, facing-symmetric, Apart-rules, own-inverse}
 use Rattle.table_laying.specs.Pieces.{rows-size-append}

@@ -18,7 +18,7 @@ use Rattle.order.specs.Leveled.{Leveled}
 use Rattle.order.specs.LeveledLaws.{regular-leveled}
 use Rattle.order.specs.Closure.{inner-of}
 use Rattle.tables.specs.Tables.{rules-of, own-shapes, has-symmetric, row-size, rows-size, size-of, states-from}
-use Rattle.table_languages.specs.Shapes.{Shaped, shape-shaped}
+use Rattle.table_languages.specs.LeftSides.{Shaped, shape-shaped}
 use Rattle.table_languages.specs.RoleShapes.{has-symmetric-member, member-has-symmetric, own-shape-rule, rule-own-shape}
 use Rattle.base.specs.Result.Result.{ok}
 use Rattle.book_format.specs.Format.{read}

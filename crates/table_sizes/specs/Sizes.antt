@@ -10,7 +10,7 @@ use Rattle.roles.specs.Rule.{Rule}
 use Rattle.order.specs.Shape.{Shape, shape}
 use Rattle.order.specs.Shape.Shape.{symmetric, row}
 use Rattle.order.specs.Leveled.{Fits}
-use Rattle.table_languages.specs.Shapes.{completed-fits}
+use Rattle.table_languages.specs.LeftSides.{completed-fits}
 use Rattle.table_languages.specs.RoleShapes.{own-shape-rule, shapes-cases}
 use Rattle.tables.specs.Tables.{own-shapes, shapes, states-from, transitions-from}
 use Rattle.table_sizes.specs.Bound.{Some-inner, roots-few}

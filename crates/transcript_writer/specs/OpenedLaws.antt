@@ -7,11 +7,12 @@ use Rattle.roles.specs.Rule.{Book}
 use Rattle.tables.specs.Tables.{transitions}
 use Rattle.base.specs.Result.{Result, map-result}
 use Rattle.base.specs.Result.Result.{refused, ok}
-use Rattle.book_causes.specs.Accepted.{states-of, count-of, heads-of, moves-of, built, over}
+use Rattle.book_causes.specs.Accepted.{states-of, count-of, heads-of, moves-of, built}
+use Rattle.base.specs.Writing.{over}
 use Rattle.table_laying.specs.Pieces.{length-numbers, length-roots}
 use Rattle.table_builder.specs.declared.Outcome.{Outcome}
 use Rattle.table_builder.specs.Builds.{counts-of, says, Builds}
-use Rattle.table_builder.specs.WrittenLaws.{over-front}
+use Rattle.base.specs.Writing.{over-front}
 use Rattle.transcript_lines.specs.Lines.{first-line}
 use Rattle.line_writer.specs.Puts.{Puts}
 use Rattle.line_writer.specs.PutsLaws.{puts-as}

@@ -26,14 +26,18 @@ cast-if2 c = omega (arith, c .shared-slice-known .given (c .before .before .befo
 
 returns-2 : tie.Need-returns-2 Inv-loop μ-loop
 unfolding entry-rule
-returns-2 c = ap check (sym (named-left _ _ (c .before .before .before .before .before .before .args .book .now) (c .before .before .before .before .before .before .args .rule .start) (c .before .before .before .before .before .before .args .rule .size) (c .before .before .before .before .before .before .pre .1) (c .before .before .before .loop .i) (c .before .before .loop-test .taken) (c .if2 .taken)))
+returns-2 c =
+    let entry = c .before .before .before .before .before .before in
+    ap check (sym (named-left _ _ (entry .args .book .now) (entry .args .rule .start) (entry .args .rule .size) (entry .pre .1) (c .before .before .before .loop .i) (c .before .before .loop-test .taken) (c .if2 .taken)))
 
 loop-again : tie.Need-loop-again Inv-loop μ-loop
 loop-again c = (omega arith, below-more _ _ (c .before .before .before .loop .inv .1) (c .if2 .left))
 
 returns-3 : tie.Need-returns-3 Inv-loop μ-loop
 unfolding entry-rule
-returns-3 c = ap check (sym (named-both _ _ (c .before .before .before .before .args .book .now) (c .before .before .before .before .args .rule .start) (c .before .before .before .before .args .rule .size) (c .before .before .before .before .pre .1) (c .before .before .if1 .left) (λ k p. c .before .loop .inv .1 k (omega arith))))
+returns-3 c =
+    let entry = c .before .before .before .before in
+    ap check (sym (named-both _ _ (entry .args .book .now) (entry .args .rule .start) (entry .args .rule .size) (entry .pre .1) (c .before .before .if1 .left) (λ k p. c .before .loop .inv .1 k (omega arith))))
 
 pub declared-spec : {M : Type 1} → statement M
 declared-spec =

@@ -10,7 +10,7 @@ use Rattle.refusals.specs.Check.{check-passed, check-failed}
 use Rattle.book_format.specs.FormatLaws.{length-first-rules}
 use Rattle.book_format.specs.Place.{rule-place}
 use Rattle.base.specs.Result.{map-result}
-use Rattle.book_format.specs.RunLaws.{Running, running-start, running-cut, running-undeclared, running-next, running-after, running-end}
+use Rattle.book_format.specs.RuleLoopLaws.{Running, running-start, running-cut, running-undeclared, running-next, running-after, running-end}
 use Rattle.book_decoder.proofs.decode_rules.Statement.{statement}
 use Rattle.book_decoder.proofs.decode_rules.Tie as tie
 
@@ -25,38 +25,45 @@ unfolding rule-place
 loop-holds c = (omega arith, (c .first .ensures, running-start _ _ _))
 
 returns : tie.Need-returns Inv-loop μ-loop
-returns c = sym (ap (map-result header-of) (running-cut _ _ _ _ (c .before .before .before .loop-test .taken) (c .before .before .before .before .loop .inv .1 .1) (no-rule _ _ _ _ (c .before .before .before .before .loop .inv .1 .0) (c .before .before .step .ensures) (c .enum-told .given .1))))
+returns c =
+    let turn = c .before .before .before .before in
+    sym (ap (map-result header-of) (running-cut _ _ _ _ (c .before .before .before .loop-test .taken) (turn .loop .inv .1 .1) (no-rule _ _ _ _ (turn .loop .inv .1 .0) (c .before .before .step .ensures) (c .enum-told .given .1))))
 
 declared-requires : tie.Need-declared-requires Inv-loop μ-loop
 declared-requires c κs = (c .before .before .before .before .before .before .before .before .pre, at-rule _ _ _ _ _ _ (c .before .before .before .before .before .loop .inv .1 .0) (c .before .before .before .step .ensures) (c .before .entry .given .1) .fits)
 
 returns-2 : tie.Need-returns-2 Inv-loop μ-loop
 returns-2 c =
-    let a = at-rule _ _ _ _ _ _ (c .before .before .before .before .before .before .before .before .loop .inv .1 .0) (c .before .before .before .before .before .before .step .ensures) (c .before .before .before .before .entry .given .1) in
+    let turn = c .before .before .before .before .before .before .before .before in
+    let a = at-rule _ _ _ _ _ _ (turn .loop .inv .1 .0) (c .before .before .before .before .before .before .step .ensures) (c .before .before .before .before .entry .given .1) in
     sym
     (ap (map-result header-of)
-    (running-undeclared _ _ _ _ (c .before .before .before .before .before .before .before .loop-test .taken) (c .before .before .before .before .before .before .before .before .loop .inv .1 .1) (a .whole)
+    (running-undeclared _ _ _ _ (c .before .before .before .before .before .before .before .loop-test .taken) (turn .loop .inv .1 .1) (a .whole)
     (named-entry _ _ _ _ _ _ a (check-failed _ _ (c .before .before .declared .ensures) (c .enum-told3 .given .1)))))
 
 loop-again : tie.Need-loop-again Inv-loop μ-loop
 loop-again c =
-    let a = at-rule _ _ _ _ _ _ (c .before .before .before .before .before .before .before .before .loop .inv .1 .0) (c .before .before .before .before .before .before .step .ensures) (c .before .before .before .before .entry .given .1) in (
+    let turn = c .before .before .before .before .before .before .before .before in
+    let a = at-rule _ _ _ _ _ _ (turn .loop .inv .1 .0) (c .before .before .before .before .before .before .step .ensures) (c .before .before .before .before .entry .given .1) in (
       omega arith,
       (
         a .place,
-        running-next _ _ _ _ (c .before .before .before .before .before .before .before .loop-test .taken) (c .before .before .before .before .before .before .before .before .loop .inv .1 .1) (a .whole)
+        running-next _ _ _ _ (c .before .before .before .before .before .before .before .loop-test .taken) (turn .loop .inv .1 .1) (a .whole)
             (named-entry _ _ _ _ _ _ a (check-passed _ _ (c .before .before .declared .ensures) (c .enum-told2 .given .1))),
       ),
     )
 
 returns-3 : tie.Need-returns-3 Inv-loop μ-loop
-returns-3 c = sym (ap (map-result header-of) (running-after _ _ _ _ _ (let e : c .before .before .before .before .loop .number ≡ c .before .before .before .before .before .before .before .args .header .rules = omega arith in e) (c .before .before .before .before .loop .inv .1 .0) (c .before .before .before .before .loop .inv .1 .1) (leb-false _ _ (check-failed _ _ (c .before .before .ended .ensures) (c .enum-told5 .given .1)))))
+returns-3 c =
+    let turn = c .before .before .before .before in
+    sym (ap (map-result header-of) (running-after _ _ _ _ _ (let e : turn .loop .number ≡ c .before .before .before .before .before .before .before .args .header .rules = omega arith in e) (turn .loop .inv .1 .0) (turn .loop .inv .1 .1) (leb-false _ _ (check-failed _ _ (c .before .before .ended .ensures) (c .enum-told5 .given .1)))))
 
 returns-4 : tie.Need-returns-4 Inv-loop μ-loop
 returns-4 c =
+    let turn = c .before .before .before .before in
     sym
     (ap (map-result header-of)
-    (running-end _ _ _ _ _ (let e : c .before .before .before .before .loop .number ≡ c .before .before .before .before .before .before .before .args .header .rules = omega arith in e) (c .before .before .before .before .loop .inv .1 .0) (c .before .before .before .before .loop .inv .1 .1) (leb-true _ _ (check-passed _ _ (c .before .before .ended .ensures) (c .enum-told4 .given .1))))
+    (running-end _ _ _ _ _ (let e : turn .loop .number ≡ c .before .before .before .before .before .before .before .args .header .rules = omega arith in e) (turn .loop .inv .1 .0) (turn .loop .inv .1 .1) (leb-true _ _ (check-passed _ _ (c .before .before .ended .ensures) (c .enum-told4 .given .1))))
     ∙ rw length-first-rules refl)
 
 pub decode-rules-spec : {M : Type 1} → statement M

@@ -20,7 +20,9 @@ returns : tie.Need-returns Inv-loop μ-loop
 returns c = ap check (sym (prefix-short (c .before .args .book .now) (c .before .args .mark .now) (omega arith)))
 
 returns-2 : tie.Need-returns-2 Inv-loop μ-loop
-returns-2 c = ap check (sym (prefix-differs (c .before .before .before .before .before .before .args .book .now) (c .before .before .before .before .before .before .args .mark .now) (c .before .before .before .before .loop .i) (c .before .before .before .loop-test .taken) (c .if2 .taken)))
+returns-2 c =
+    let entry = c .before .before .before .before .before .before in
+    ap check (sym (prefix-differs (entry .args .book .now) (entry .args .mark .now) (c .before .before .before .before .loop .i) (c .before .before .before .loop-test .taken) (c .if2 .taken)))
 
 loop-again : tie.Need-loop-again Inv-loop μ-loop
 loop-again c = (omega arith, below-more _ _ (c .before .before .before .before .loop .inv .1) (c .if2 .left))

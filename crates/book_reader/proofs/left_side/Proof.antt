@@ -24,10 +24,14 @@ returns-3 : tie.Need-returns-3
 returns-3 c = absurd (some-rule _ _ _ _ (c .before .before .before .before .seek .ensures) (has-rule-whole _ _ (has-rule-header _ _ _ (sym (ap says (c .before .before .before .before .before .before .before .header .given .1)) ∙ c .before .before .before .before .before .before .before .before .before .decode .ensures) ∙ lt-ltb _ _ (c .before .before .before .before .before .if1 .left)) (c .before .before .before .before .before .before .before .before .before .before .before .args .rule) (omega arith)) (c .before .before .before .step .ensures) (c .before .enum-told2 .given .1))
 
 add-end : tie.Need-add-end
-add-end c = omega (arith, at-rule (c .before .before .before .before .before .before .before .before .before .before .before .before .args .book .now) (c .before .before .before .before .before .before .before .before .before .before .before .before .args .rule) _ _ _ _ (c .before .before .before .before .before .seek .ensures) (c .before .before .before .before .step .ensures) (c .before .before .entry .given .1) .fits)
+add-end c =
+    let entry = c .before .before .before .before .before .before .before .before .before .before .before .before in
+    omega (arith, at-rule (entry .args .book .now) (entry .args .rule) _ _ _ _ (c .before .before .before .before .before .seek .ensures) (c .before .before .before .before .step .ensures) (c .before .before .entry .given .1) .fits)
 
 part-result-end-4 : tie.Need-part-result-end-4
-part-result-end-4 c = omega (arith, at-rule (c .before .before .before .before .before .before .before .before .before .before .before .before .args .book .now) (c .before .before .before .before .before .before .before .before .before .before .before .before .args .rule) _ _ _ _ (c .before .before .before .before .before .seek .ensures) (c .before .before .before .before .step .ensures) (c .before .before .entry .given .1) .fits)
+part-result-end-4 c =
+    let entry = c .before .before .before .before .before .before .before .before .before .before .before .before in
+    omega (arith, at-rule (entry .args .book .now) (entry .args .rule) _ _ _ _ (c .before .before .before .before .before .seek .ensures) (c .before .before .before .before .step .ensures) (c .before .before .entry .given .1) .fits)
 
 returns-4 : tie.Need-returns-4
 returns-4 c =

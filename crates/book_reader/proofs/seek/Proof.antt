@@ -21,13 +21,17 @@ unfolding rule-place
 loop-holds c = (omega arith, c .first .ensures)
 
 returns : tie.Need-returns Inv-loop μ-loop
-returns c = absurd (some-rule _ _ _ _ (c .before .before .before .before .loop .inv .1) (has-rule-whole _ _ (c .before .before .before .before .before .before .before .pre) (c .before .before .before .before .loop .passed) (c .before .before .before .before .loop .inv .0)) (c .before .before .step .ensures) (c .enum-told .given .1))
+returns c =
+    let turn = c .before .before .before .before in
+    absurd (some-rule _ _ _ _ (turn .loop .inv .1) (has-rule-whole _ _ (c .before .before .before .before .before .before .before .pre) (turn .loop .passed) (turn .loop .inv .0)) (c .before .before .step .ensures) (c .enum-told .given .1))
 
 loop-again : tie.Need-loop-again Inv-loop μ-loop
 loop-again c = (omega arith, place-next _ _ _ _ (c .before .before .before .before .before .loop .inv .1) (step-rule _ _ _ _ _ (c .before .before .before .step .ensures) (c .before .next .given .1) .place))
 
 returns-2 : tie.Need-returns-2 Inv-loop μ-loop
-returns-2 c = let e : c .before .loop .passed ≡ c .before .before .before .before .args .rule = omega arith in (c .before .loop .inv .1) ∙ ap (rule-place (c .before .before .before .before .args .book .now)) e
+returns-2 c =
+    let entry = c .before .before .before .before in
+    let e : c .before .loop .passed ≡ entry .args .rule = omega arith in (c .before .loop .inv .1) ∙ ap (rule-place (entry .args .book .now)) e
 
 pub seek-spec : {M : Type 1} → statement M
 seek-spec =

@@ -20,7 +20,9 @@ part-reached-end : tie.Need-part-reached-end
 part-reached-end c = row-within _ _ _ (c .before .before .before .before .shape-of .ensures) _ (c .before .before .row .given .1)
 
 reached-requires : tie.Need-reached-requires
-reached-requires c κs = let row = c .before .before .before .before .row .given .0 .0 in (named-part _ (c .before .before .before .before .before .before .before .before .before .args .right) (c .before .before .before .before .before .before .before .before .before .args .left .now) (c .before .before .before .before .before .before .before .before .before .pre .0) (row .start) (row .start + row .size - row .start), c .before .before .before .before .before .before .before .before .before .pre .1)
+reached-requires c κs =
+    let entry = c .before .before .before .before .before .before .before .before .before in
+    let row = c .before .before .before .before .row .given .0 .0 in (named-part _ (entry .args .right) (entry .args .left .now) (entry .pre .0) (row .start) (row .start + row .size - row .start), entry .pre .1)
 
 -- the right name has a mask
 over-masked : (c : tie.After-name) → c .name .result < length (c .before .before .before .before .before .before .before .before .before .before .before .args .masks .now)
@@ -39,7 +41,9 @@ absorb-requires : tie.Need-absorb-requires
 absorb-requires c κs = (over-masked (c .before .before .before .before .before), c .before .before .before .before .before .before .before .before .before .before .before .before .before .before .before .before .pre .1)
 
 returns-4 : tie.Need-returns-4
-returns-4 c = added-extends _ _ _ (row-inner _ _ _ (c .before .before .before .before .before .before .before .before .before .before .before .before .before .before .before .before .shape-of .ensures) _ (c .before .before .before .before .before .before .before .before .before .before .before .before .before .before .row .given .1)) _ (c .before .before .before .before .before .before .before .before .before .reached .ensures) _ (c .before .before .before .before .before .before .before .before .name .ensures) (over-small (c .before .before .before .before .before .before .before .before)) _ (sym (c .before .before .before .before .before .before .before .has .ensures) ∙ c .before .before .before .before .before .before .if1 .left) (c .before .before .absorb .ensures)
+returns-4 c =
+    let at-before = c .before .before .before .before .before .before .before in
+    added-extends _ _ _ (row-inner _ _ _ (c .before .before .before .before .before .before .before .before .before .before .before .before .before .before .before .before .shape-of .ensures) _ (c .before .before .before .before .before .before .before .before .before .before .before .before .before .before .row .given .1)) _ (c .before .before .before .before .before .before .before .before .before .reached .ensures) _ (c .before .before .before .before .before .before .before .before .name .ensures) (over-small (at-before .before)) _ (sym (at-before .has .ensures) ∙ c .before .before .before .before .before .before .if1 .left) (c .before .before .absorb .ensures)
 
 pub add-rule-spec : {M : Type 1} → statement M
 add-rule-spec =

@@ -21,7 +21,9 @@ unfolding rule-place
 loop-holds c = (omega arith, (c .first .ensures, (c .before .before .before .pre .1 .0, gathers-start _ _ (c .before .before .before .pre .1 .1))))
 
 returns : tie.Need-returns Inv-loop μ-loop
-returns c = absurd (some-rule _ _ _ _ (c .before .before .before .before .loop .inv .1 .0) (whole-rule _ _ (c .before .before .before .before .before .before .before .before .pre .0) (c .before .before .before .before .loop .number) (c .before .before .before .loop-test .taken)) (c .before .before .step .ensures) (c .enum-told .given .1))
+returns c =
+    let turn = c .before .before .before .before in
+    absurd (some-rule _ _ _ _ (turn .loop .inv .1 .0) (whole-rule _ _ (c .before .before .before .before .before .before .before .before .pre .0) (turn .loop .number) (c .before .before .before .loop-test .taken)) (c .before .before .step .ensures) (c .enum-told .given .1))
 
 -- the entry stands for rule `number`
 entry-at : (c : tie.After-entry Inv-loop μ-loop) → AtRule (c .before .before .before .before .before .before .before .before .args .book .now) (c .before .before .before .before .loop .number) (c .entry .given .0 .0) (c .entry .given .0 .1 .0)
@@ -31,22 +33,30 @@ add-end : tie.Need-add-end Inv-loop μ-loop
 add-end c = omega (arith, entry-at (c .before .before) .fits, c .before .before .before .before .before .before .before .before .before .before .good)
 
 add-rule-requires : tie.Need-add-rule-requires Inv-loop μ-loop
-add-rule-requires c κs = (rw (c .before .before .before .before .before .before .before .before .loop .inv .1 .1 .0) (named-rule _ _ (c .before .before .before .before .before .before .before .before .before .before .before .before .pre .0) (c .before .before .before .before .before .before .before .before .loop .number) (c .before .before .before .before .before .before .before .loop-test .taken) _ (handed-rule _ _ _ _ (entry-at (c .before .before .before .before)))), rw (c .before .before .before .before .before .before .before .before .loop .inv .1 .1 .0) (few-names _ _ (c .before .before .before .before .before .before .before .before .before .before .before .before .pre .0)))
+add-rule-requires c κs =
+    let turn = c .before .before .before .before .before .before .before .before in
+    let entry = turn .before .before .before .before in
+    (rw (turn .loop .inv .1 .1 .0) (named-rule _ _ (entry .pre .0) (turn .loop .number) (c .before .before .before .before .before .before .before .loop-test .taken) _ (handed-rule _ _ _ _ (entry-at (c .before .before .before .before)))), rw (turn .loop .inv .1 .1 .0) (few-names _ _ (entry .pre .0)))
 
 returns-2 : tie.Need-returns-2 Inv-loop μ-loop
-returns-2 c = (gathers-clash _ _ (c .before .before .before .before .before .before .before .before .before .before .before .before .before .before .before .before .before .pre .0) (c .before .before .before .before .before .before .before .before .before .before .before .before .before .loop .number) (c .before .before .before .before .before .before .before .before .before .before .before .before .loop-test .taken) _ (handed-rule _ _ _ _ (entry-at (c .before .before .before .before .before .before .before .before .before))) _ _ _ (c .before .before .before .before .add-rule .ensures) (c .before .before .before .before .before .before .before .before .before .before .before .before .before .loop .inv .1 .1 .1) (c .enum-told3 .given .1), tt)
+returns-2 c =
+    let turn = c .before .before .before .before .before .before .before .before .before .before .before .before .before in
+    (gathers-clash _ _ (c .before .before .before .before .before .before .before .before .before .before .before .before .before .before .before .before .before .pre .0) (turn .loop .number) (c .before .before .before .before .before .before .before .before .before .before .before .before .loop-test .taken) _ (handed-rule _ _ _ _ (entry-at (c .before .before .before .before .before .before .before .before .before))) _ _ _ (c .before .before .before .before .add-rule .ensures) (turn .loop .inv .1 .1 .1) (c .enum-told3 .given .1), tt)
 
 loop-again : tie.Need-loop-again Inv-loop μ-loop
-loop-again c = (
-  omega arith,
-  (
-    entry-at (c .before .before .before .before .before .before .before .before .before) .place,
-    (
-      c .before .before .before .before .add-rule .kept .1 .1 .0 ∙ c .before .before .before .before .before .before .before .before .before .before .before .before .before .loop .inv .1 .1 .0,
-      gathers-next _ _ (c .before .before .before .before .before .before .before .before .before .before .before .before .before .before .before .before .before .pre .0) (c .before .before .before .before .before .before .before .before .before .before .before .before .before .loop .number) (c .before .before .before .before .before .before .before .before .before .before .before .before .loop-test .taken) _ (handed-rule _ _ _ _ (entry-at (c .before .before .before .before .before .before .before .before .before))) _ _ _ (c .before .before .before .before .add-rule .ensures) (c .before .before .before .before .before .before .before .before .before .before .before .before .before .loop .inv .1 .1 .1) (c .enum-told2 .given .1),
-    ),
-  ),
-)
+loop-again c =
+    let at-add-rule = c .before .before .before .before in
+    let at-before = at-add-rule .before .before .before .before in
+    let turn = at-before .before .before .before .before .before in (
+      omega arith,
+      (
+        entry-at (at-before .before) .place,
+        (
+          at-add-rule .add-rule .kept .1 .1 .0 ∙ turn .loop .inv .1 .1 .0,
+          gathers-next _ _ (c .before .before .before .before .before .before .before .before .before .before .before .before .before .before .before .before .before .pre .0) (turn .loop .number) (c .before .before .before .before .before .before .before .before .before .before .before .before .loop-test .taken) _ (handed-rule _ _ _ _ (entry-at (at-before .before))) _ _ _ (at-add-rule .add-rule .ensures) (turn .loop .inv .1 .1 .1) (c .enum-told2 .given .1),
+        ),
+      ),
+    )
 
 returns-3 : tie.Need-returns-3 Inv-loop μ-loop
 returns-3 c = gathers-end _ _ (c .before .before .before .before .before .pre .0) _ _ (c .loop-test .left) (c .before .loop .inv .1 .1 .1)

@@ -45,7 +45,9 @@ counted-requires : tie.Need-counted-requires
 counted-requires c κs = rw (length-take-le _ _ (array-share-prefix-masks (c .before))) (few (c .before .before .before .before .before .before))
 
 returns-3 : tie.Need-returns-3
-returns-3 c = order-passed _ _ (c .before .before .before .before .before .gather .ensures .0) _ (ap says (c .before .before .enum-told2 .given .1)) _ _ (c .before .before .before .before .before .gather .ensures .1) (c .counted .ensures .0) (rw (take-at _ _ _ (c .before .before .before .before .before .gather .kept .1 .1 .0 ∙ as-many (c .before .before .before .before .before .before .before))) at (c .counted .ensures .1))
+returns-3 c =
+    let at-gather = c .before .before .before .before .before in
+    order-passed _ _ (at-gather .gather .ensures .0) _ (ap says (c .before .before .enum-told2 .given .1)) _ _ (at-gather .gather .ensures .1) (c .counted .ensures .0) (rw (take-at _ _ _ (at-gather .gather .kept .1 .1 .0 ∙ as-many (c .before .before .before .before .before .before .before))) at (c .counted .ensures .1))
 
 pub order-spec : {M : Type 1} → statement M
 order-spec =

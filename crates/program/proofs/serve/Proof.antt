@@ -39,14 +39,15 @@ slice-aggregate-write-all c = puts-counts (c .before .before .before .answer-blo
 
 loop-again : tie.Need-loop-again Inv-loop μ-loop
 loop-again c =
+    let turn = c .before .before .before .before .before .before .before .before .before .before .before .before .before .before .before in
     let read = c .before .before .before .before .before .before .before .before .before .before .before .read-more .ensures in
     let goes = c .before .before .before .before .before .before .before .before .before .ended .ensures .more (c .before .before .before .before .before .before .before .before .if2 .left) in
     let answer = c .before .before .before .before .before .answer-block .ensures in
-    let room = c .before .before .before .before .before .before .before .before .before .before .before .before .before .before .before .loop .inv .1 in (
-      puts-length _ _ _ _ _ (answer .keeps) ∙ read .same ∙ c .before .before .before .before .before .before .before .before .before .before .before .before .before .before .before .loop .inv .0,
+    let room = turn .loop .inv .1 in (
+      puts-length _ _ _ _ _ (answer .keeps) ∙ read .same ∙ turn .loop .inv .0,
       puts-length _ _ _ _ _ (answer .puts) ∙ room,
       puts-counts (answer .keeps) .0,
-      serving-block (c .before .before .before .before .before .before .before .before .before .before .before .before .before .before .before .loop .inv .3) (search needs) (search needs) read goes answer (omega (arith, room)),
+      serving-block (turn .loop .inv .3) (search needs) (search needs) read goes answer (omega (arith, room)),
     )
 
 returns-3 : tie.Need-returns-3 Inv-loop μ-loop

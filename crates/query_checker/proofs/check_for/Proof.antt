@@ -7,7 +7,9 @@ use Rattle.query_checker.proofs.check_for.Statement.{statement}
 use Rattle.query_checker.proofs.check_for.Tie as tie
 
 returns : tie.Need-returns
-returns c = sym (question-chain (c .before .before .before .before .args .names) (c .before .before .before .before .args .role) (c .before .before .before .before .args .chain .now) (check-failed _ _ (c .before .before .chain-fits .ensures) (c .enum-told2 .given .1)))
+returns c =
+    let entry = c .before .before .before .before in
+    sym (question-chain (entry .args .names) (entry .args .role) (entry .args .chain .now) (check-failed _ _ (c .before .before .chain-fits .ensures) (c .enum-told2 .given .1)))
 
 returns-2 : tie.Need-returns-2
 returns-2 c = sym (question-role _ _ _ (check-passed _ _ (c .before .before .before .before .before .chain-fits .ensures) (c .before .before .before .enum-told .given .1)) (check-failed _ _ (c .before .before .roles-fit .ensures) (c .enum-told4 .given .1)))

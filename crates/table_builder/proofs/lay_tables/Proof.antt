@@ -7,8 +7,9 @@ use Rattle.table_builder.proofs.lay_tables.Tie as tie
 
 roots-requires : tie.Need-roots-requires
 roots-requires c κs =
-    let pre = c .before .before .before .before .before .before .before .pre in
-    let args = c .before .before .before .before .before .before .before .args in
+    let entry = c .before .before .before .before .before .before .before in
+    let pre = entry .pre in
+    let args = entry .args in
     let plan = c .before .before .before .plan in
     roots-ready _ _ _ (pre .1) (length (args .heads .now)) (length (args .moves .now)) (plan .result) (plan .ensures _ (pre .1)) _ (c .before .before .names-of .ensures)
 

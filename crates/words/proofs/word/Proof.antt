@@ -22,7 +22,9 @@ mul-result : tie.Need-mul-result
 mul-result c = omega (arith, c .shared-slice-known2 .given (c .before .before .before .before .args .at + 1))
 
 add-result-2 : tie.Need-add-result-2
-add-result-2 c = omega (arith, c .shared-slice-known2 .given (c .before .before .before .before .args .at), c .shared-slice-known2 .given (c .before .before .before .before .args .at + 1))
+add-result-2 c =
+    let entry = c .before .before .before .before in
+    omega (arith, c .shared-slice-known2 .given (entry .args .at), c .shared-slice-known2 .given (entry .args .at + 1))
 
 pub word-spec : {M : Type 1} → statement M
 word-spec =

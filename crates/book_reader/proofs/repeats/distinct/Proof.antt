@@ -28,43 +28,52 @@ unfolding rule-place
 loop-holds c = (omega arith, (c .first .ensures, searched-start _ _))
 
 returns : tie.Need-returns Inv-loop μ-loop
-returns c = absurd (some-rule _ _ _ _ (c .before .before .before .before .loop .inv .1 .0) (headed _ _ (c .before .before .before .before .before .before .before .pre) .whole (c .before .before .before .before .loop .later) (c .before .before .before .loop-test .taken)) (c .before .before .step .ensures) (c .enum-told .given .1))
+returns c =
+    let turn = c .before .before .before .before in
+    absurd (some-rule _ _ _ _ (turn .loop .inv .1 .0) (headed _ _ (c .before .before .before .before .before .before .before .pre) .whole (turn .loop .later) (c .before .before .before .loop-test .taken)) (c .before .before .step .ensures) (c .enum-told .given .1))
 
 key-requires : tie.Need-key-requires Inv-loop μ-loop
 key-requires c κs =
-    let a = at-rule _ _ _ _ _ _ (c .before .before .before .before .before .loop .inv .1 .0) (c .before .before .before .step .ensures) (c .before .entry .given .1) in
-    (a .fits, rw (a .rule) (bounded _ _ (c .before .before .before .before .before .before .before .before .pre) .short (c .before .before .before .before .before .loop .later) (c .before .before .before .before .loop-test .taken)))
+    let turn = c .before .before .before .before .before in
+    let a = at-rule _ _ _ _ _ _ (turn .loop .inv .1 .0) (c .before .before .before .step .ensures) (c .before .entry .given .1) in
+    (a .fits, rw (a .rule) (bounded _ _ (c .before .before .before .before .before .before .before .before .pre) .short (turn .loop .later) (c .before .before .before .before .loop-test .taken)))
 
 fresh-requires : tie.Need-fresh-requires Inv-loop μ-loop
 fresh-requires c κs = c .before .before .before .before .before .before .before .before .loop .inv .1 .1 .entered
 
 returns-2 : tie.Need-returns-2 Inv-loop μ-loop
 returns-2 c =
-    let a = at-rule _ _ _ _ _ _ (c .before .before .before .before .before .before .before .before .before .before .before .loop .inv .1 .0) (c .before .before .before .before .before .before .before .before .before .step .ensures) (c .before .before .before .before .before .before .before .entry .given .1) in
+    let turn = c .before .before .before .before .before .before .before .before .before .before .before in
+    let entry = turn .before .before .before in
+    let a = at-rule _ _ _ _ _ _ (turn .loop .inv .1 .0) (c .before .before .before .before .before .before .before .before .before .step .ensures) (c .before .before .before .before .before .before .before .entry .given .1) in
     sym
     (ap (map-result header-of)
-    (headed _ _ (c .before .before .before .before .before .before .before .before .before .before .before .before .before .before .pre) .reads
-    ∙ searched-found _ _ (bounded _ _ (c .before .before .before .before .before .before .before .before .before .before .before .before .before .before .pre)) _ _ _ (c .before .before .before .before .before .before .before .before .before .before .before .loop .inv .1 .1) (c .before .before .before .before .before .before .before .before .before .before .loop-test .taken) _ (a .rule) _ (c .before .before .before .before .before .key .ensures) (not-false _ (check-failed _ _ (c .before .before .fresh .ensures) (c .enum-told3 .given .1)))))
+    (headed _ _ (entry .pre) .reads
+    ∙ searched-found _ _ (bounded _ _ (entry .pre)) _ _ _ (turn .loop .inv .1 .1) (c .before .before .before .before .before .before .before .before .before .before .loop-test .taken) _ (a .rule) _ (c .before .before .before .before .before .key .ensures) (not-false _ (check-failed _ _ (c .before .before .fresh .ensures) (c .enum-told3 .given .1)))))
 
 enter-requires : tie.Need-enter-requires Inv-loop μ-loop
-enter-requires c κs = (c .before .before .before .before .before .before .before .before .before .before .before .before .before .loop .inv .1 .1 .entered, omega (arith, bounded (c .before .before .before .before .before .before .before .before .before .before .before .before .before .before .before .before .args .book .now) (c .before .before .before .before .before .before .before .before .before .before .before .before .before .before .before .before .args .header) (c .before .before .before .before .before .before .before .before .before .before .before .before .before .before .before .before .pre) .few))
+enter-requires c κs =
+    let entry = c .before .before .before .before .before .before .before .before .before .before .before .before .before .before .before .before in
+    (c .before .before .before .before .before .before .before .before .before .before .before .before .before .loop .inv .1 .1 .entered, omega (arith, bounded (entry .args .book .now) (entry .args .header) (entry .pre) .few))
 
 loop-again : tie.Need-loop-again Inv-loop μ-loop
 loop-again c =
-    let a = at-rule _ _ _ _ _ _ (c .before .before .before .before .before .before .before .before .before .before .before .before .before .before .before .before .loop .inv .1 .0) (c .before .before .before .before .before .before .before .before .before .before .before .before .before .before .step .ensures) (c .before .before .before .before .before .before .before .before .before .before .before .before .entry .given .1) in (
+    let turn = c .before .before .before .before .before .before .before .before .before .before .before .before .before .before .before .before in
+    let a = at-rule _ _ _ _ _ _ (turn .loop .inv .1 .0) (c .before .before .before .before .before .before .before .before .before .before .before .before .before .before .step .ensures) (c .before .before .before .before .before .before .before .before .before .before .before .before .entry .given .1) in (
       omega arith,
       (
         a .place,
-        searched-next _ _ (bounded _ _ (c .before .before .before .before .before .before .before .before .before .before .before .before .before .before .before .before .before .before .before .pre)) _ _ _ (c .before .before .before .before .before .before .before .before .before .before .before .before .before .before .before .before .loop .inv .1 .1) (c .before .before .before .before .before .before .before .before .before .before .before .before .before .before .before .loop-test .taken) _ (a .rule) _ (c .before .before .before .before .before .before .before .before .before .before .key .ensures) (not-true _ (check-passed _ _ (c .before .before .before .before .before .before .before .fresh .ensures) (c .before .before .before .before .before .enum-told2 .given .1))) _ _ (c .before .before .enter .ensures .0) (c .before .before .enter .ensures .1),
+        searched-next _ _ (bounded _ _ (c .before .before .before .before .before .before .before .before .before .before .before .before .before .before .before .before .before .before .before .pre)) _ _ _ (turn .loop .inv .1 .1) (c .before .before .before .before .before .before .before .before .before .before .before .before .before .before .before .loop-test .taken) _ (a .rule) _ (c .before .before .before .before .before .before .before .before .before .before .key .ensures) (not-true _ (check-passed _ _ (c .before .before .before .before .before .before .before .fresh .ensures) (c .before .before .before .before .before .enum-told2 .given .1))) _ _ (c .before .before .enter .ensures .0) (c .before .before .enter .ensures .1),
       ),
     )
 
 returns-3 : tie.Need-returns-3 Inv-loop μ-loop
 returns-3 c =
+    let entry = c .before .before .before .before in
     sym
     (ap (map-result header-of)
-    (headed _ _ (c .before .before .before .before .pre) .reads
-    ∙ searching-end _ _ _ _ (let e : c .before .loop .later ≡ c .before .before .before .before .args .header .rules = omega arith in e) (c .before .loop .inv .1 .1 .searching))
+    (headed _ _ (entry .pre) .reads
+    ∙ searching-end _ _ _ _ (let e : c .before .loop .later ≡ entry .args .header .rules = omega arith in e) (c .before .loop .inv .1 .1 .searching))
     ∙ rw length-first-rules refl)
 
 pub distinct-spec : {M : Type 1} → statement M

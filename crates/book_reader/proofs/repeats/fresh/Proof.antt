@@ -22,19 +22,27 @@ mul-if1 : tie.Need-mul-if1 Inv-loop μ-loop
 mul-if1 c = omega (arith, c .before .loop .inv .low, c .before .before .before .pre .linked .space, c .before .before .before .pre .entries)
 
 shared-slice-read-if1 : tie.Need-shared-slice-read-if1 Inv-loop μ-loop
-shared-slice-read-if1 c = omega (arith, c .before .before .loop .inv .low, c .before .before .before .before .pre .linked .space, c .before .before .before .before .pre .entries, c .before .before .before .before .pre .places)
+shared-slice-read-if1 c =
+    let entry = c .before .before .before .before in
+    omega (arith, c .before .before .loop .inv .low, entry .pre .linked .space, entry .pre .entries, entry .pre .places)
 
 returns : tie.Need-returns Inv-loop μ-loop
 returns c = ap (λ (t : Bool). check (not t)) (sym (walked-found _ _ _ _ (c .before .before .before .before .before .pre) _ (c .before .before .before .loop .inv) (c .before .before .loop-test .taken) (c .if1 .taken)))
 
 add-at : tie.Need-add-at Inv-loop μ-loop
-add-at c = omega (arith, c .before .before .before .loop .inv .low, c .before .before .before .before .before .pre .linked .space, c .before .before .before .before .before .pre .entries)
+add-at c =
+    let entry = c .before .before .before .before .before in
+    omega (arith, c .before .before .before .loop .inv .low, entry .pre .linked .space, entry .pre .entries)
 
 mul-at-2 : tie.Need-mul-at-2 Inv-loop μ-loop
-mul-at-2 c = omega (arith, c .before .before .before .loop .inv .low, c .before .before .before .before .before .pre .linked .space, c .before .before .before .before .before .pre .entries)
+mul-at-2 c =
+    let entry = c .before .before .before .before .before in
+    omega (arith, c .before .before .before .loop .inv .low, entry .pre .linked .space, entry .pre .entries)
 
 shared-slice-read-at-2 : tie.Need-shared-slice-read-at-2 Inv-loop μ-loop
-shared-slice-read-at-2 c = omega (arith, c .before .before .before .before .loop .inv .low, c .before .before .before .before .before .before .pre .linked .space, c .before .before .before .before .before .before .pre .entries)
+shared-slice-read-at-2 c =
+    let entry = c .before .before .before .before .before .before in
+    omega (arith, c .before .before .before .before .loop .inv .low, entry .pre .linked .space, entry .pre .entries)
 
 cast-at-2 : tie.Need-cast-at-2 Inv-loop μ-loop
 cast-at-2 c = omega (arith, c .shared-slice-known3 .given (256 + (c .before .before .before .before .loop .at - 1)))

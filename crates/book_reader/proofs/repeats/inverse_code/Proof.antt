@@ -26,10 +26,14 @@ mul-code : tie.Need-mul-code Inv-loop μ-loop
 mul-code c = omega (arith, inverse-front (c .before .before .before .args .chain .now) (c .before .before .before .pre .0) (c .before .before .before .pre .1) (c .before .loop .i) (c .loop-test .taken))
 
 add-code : tie.Need-add-code Inv-loop μ-loop
-add-code c = omega (arith, inverse-front (c .before .before .before .before .before .args .chain .now) (c .before .before .before .before .before .pre .0) (c .before .before .before .before .before .pre .1) (c .before .before .before .loop .i) (c .before .before .loop-test .taken), c .inverse .ok)
+add-code c =
+    let entry = c .before .before .before .before .before in
+    omega (arith, inverse-front (entry .args .chain .now) (entry .pre .0) (entry .pre .1) (c .before .before .before .loop .i) (c .before .before .loop-test .taken), c .inverse .ok)
 
 loop-again : tie.Need-loop-again Inv-loop μ-loop
-loop-again c = (omega arith, rw (c .before .before .before .loop .inv .1, c .inverse .ensures) (sym (inverse-next _ (c .before .before .before .before .before .pre .0) (c .before .before .before .before .before .pre .1) (c .before .before .before .loop .i) (c .before .before .loop-test .taken))))
+loop-again c =
+    let entry = c .before .before .before .before .before in
+    (omega arith, rw (c .before .before .before .loop .inv .1, c .inverse .ensures) (sym (inverse-next _ (entry .pre .0) (entry .pre .1) (c .before .before .before .loop .i) (c .before .before .loop-test .taken))))
 
 returns : tie.Need-returns Inv-loop μ-loop
 returns c = let e : c .before .loop .i ≡ length (c .before .before .before .args .chain .now) = omega arith in rw (e, take-length) at (c .before .loop .inv .1)

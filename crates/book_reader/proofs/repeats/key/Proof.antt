@@ -5,10 +5,14 @@ use Rattle.book_reader.proofs.repeats.key.Statement.{statement}
 use Rattle.book_reader.proofs.repeats.key.Tie as tie
 
 code-requires : tie.Need-code-requires
-code-requires c κs = (part-small (c .before .before .before .before .args .book .now) (c .before .before .before .before .args .rule) (c .before .before .before .before .pre .1), part-few (c .before .before .before .before .args .book .now) (c .before .before .before .before .args .rule) (c .before .before .before .before .pre .1))
+code-requires c κs =
+    let entry = c .before .before .before .before in
+    (part-small (entry .args .book .now) (entry .args .rule) (entry .pre .1), part-few (entry .args .book .now) (entry .args .rule) (entry .pre .1))
 
 returns : tie.Need-returns
-returns c = rw (c .before .code .ensures .0, c .before .before .before .is-inverse .ensures, c .name .ensures) (part-key (c .before .before .before .before .before .before .args .book .now) (c .before .before .before .before .before .before .args .rule))
+returns c =
+    let entry = c .before .before .before .before .before .before in
+    rw (c .before .code .ensures .0, c .before .before .before .is-inverse .ensures, c .name .ensures) (part-key (entry .args .book .now) (entry .args .rule))
 
 pub key-spec : {M : Type 1} → statement M
 key-spec =

@@ -18,7 +18,8 @@ abbrev μ-loop : tie.MeasureT-loop
 
 loop-again : tie.Need-loop-again Inv-loop μ-loop
 loop-again c =
-    let fits : c .before .before .before .loop .x < length (c .before .before .before .before .before .args .masks .now) = omega (arith, (c .before .before .before .before .before .pre .1)) in (
+    let entry = c .before .before .before .before .before in
+    let fits : c .before .before .before .loop .x < length (entry .args .masks .now) = omega (arith, (entry .pre .1)) in (
       omega arith,
       ⊎-elim
           (λ w. rw (w .1) (absorbing-grown _ _ _ _ _ fits (c .before .before .before .loop .inv .1) (above-own _ _ _ (w .0 .taken))))

@@ -8,20 +8,26 @@ use Rattle.query_answerer.proofs.batch.answer.Statement.{statement}
 use Rattle.query_answerer.proofs.batch.answer.Tie as tie
 
 add-chain : tie.Need-add-chain
-add-chain c = omega (arith, c .before .before .before .before .before .before .pre .1, c .before .before .before .before .before .before .good)
+add-chain c =
+    let entry = c .before .before .before .before .before .before in
+    omega (arith, entry .pre .1, entry .good)
 
 add-chain-2 : tie.Need-add-chain-2
-add-chain-2 c = omega (arith, c .before .before .before .before .before .before .pre .1, c .before .before .before .before .before .before .good)
+add-chain-2 c =
+    let entry = c .before .before .before .before .before .before in
+    omega (arith, entry .pre .1, entry .good)
 
 shared-slice-read-head : tie.Need-shared-slice-read-head
 shared-slice-read-head c =
-    let at-args = c .before .before .before .before .before .before .before .before .before .before .before .before .args in
-    rw (c .before .name .ensures) (ready-named (c .before .before .before .before .before .before .before .before .before .before .before .before .pre .0) (at-args .input .now) _ (at-args .size) (c .before .before .before .before .before .before .before .if1 .left) (sym (c .before .before .before .before .check-for .ensures) ∙ ap found (c .before .before .enum-told .given .1)))
+    let entry = c .before .before .before .before .before .before .before .before .before .before .before .before in
+    let at-args = entry .args in
+    rw (c .before .name .ensures) (ready-named (entry .pre .0) (at-args .input .now) _ (at-args .size) (c .before .before .before .before .before .before .before .if1 .left) (sym (c .before .before .before .before .check-for .ensures) ∙ ap found (c .before .before .enum-told .given .1)))
 
 run-requires : tie.Need-run-requires
 run-requires c κs =
-    let at-pre = c .before .before .before .before .before .before .before .before .before .before .before .before .before .pre in
-    let at-args = c .before .before .before .before .before .before .before .before .before .before .before .before .before .args in
+    let entry = c .before .before .before .before .before .before .before .before .before .before .before .before .before in
+    let at-pre = entry .pre in
+    let at-args = entry .args in
     rw (c .before .before .name .ensures) (ready-readable (at-pre .0) (at-args .input .now) _ (at-args .size) (c .before .before .before .before .before .before .before .before .if1 .left) (sym (c .before .before .before .before .before .check-for .ensures) ∙ ap found (c .before .before .before .enum-told .given .1)) (at-pre .1 .0))
 
 returns-2 : tie.Need-returns-2

@@ -11,8 +11,9 @@ cast-put c = omega (arith, c .before .before .before .shared-slice-known2 .given
 
 put-requires : tie.Need-put-requires
 put-requires c κs =
-    let at-pre = c .before .before .before .before .before .before .pre in
-    (at-pre .0 .good, at-pre .0 .indexed .fit (c .before .before .before .before .before .before .args .k) (at-pre .1) .to-fits)
+    let entry = c .before .before .before .before .before .before in
+    let at-pre = entry .pre in
+    (at-pre .0 .good, at-pre .0 .indexed .fit (entry .args .k) (at-pre .1) .to-fits)
 
 returns-2 : tie.Need-returns-2
 returns-2 c = met-same _ _ _ (c .before .before .before .before .before .if1 .left) (c .before .before .put .ensures)

@@ -45,8 +45,9 @@ same-length c = c .before .before .close .ensures .added .behind .same ∙ c .be
 
 returns : tie.Need-returns Inv-loop μ-loop
 returns c =
+    let entry = c .before .before .before .before .before .before .before .before in
     let at-loop = c .before .before .before .before .before .loop in
-    let e : at-loop .i ≡ c .before .before .before .before .before .before .before .before .args .count = omega (arith, at-loop .inv .0, c .before .before .before .before .loop-test .left) in stepped (c .before .before .before .before .before .before .before .before .pre) (rw e at (at-loop .inv .1)) (c .before .before .close .ensures)
+    let e : at-loop .i ≡ entry .args .count = omega (arith, at-loop .inv .0, c .before .before .before .before .loop-test .left) in stepped (entry .pre) (rw e at (at-loop .inv .1)) (c .before .before .close .ensures)
 
 pub step-spec : {M : Type 1} → statement M
 step-spec =

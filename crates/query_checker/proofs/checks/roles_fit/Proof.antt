@@ -25,7 +25,9 @@ cast-if2 : tie.Need-cast-if2 Inv-loop μ-loop
 cast-if2 c = omega (arith, (c .shared-slice-known .given) (c .before .before .loop .i))
 
 returns-2 : tie.Need-returns-2 Inv-loop μ-loop
-returns-2 c = ap check (sym (named-not _ (c .before .before .before .before .before .args .role ∷ c .before .before .before .before .before .args .chain .now) (suc (c .before .before .before .loop .i)) (omega arith) (c .if2 .taken)))
+returns-2 c =
+    let entry = c .before .before .before .before .before in
+    ap check (sym (named-not _ (entry .args .role ∷ entry .args .chain .now) (suc (c .before .before .before .loop .i)) (omega arith) (c .if2 .taken)))
 
 loop-again : tie.Need-loop-again Inv-loop μ-loop
 loop-again c = (omega arith, below-more _ _ (c .before .before .before .loop .inv .1) (c .if2 .left))

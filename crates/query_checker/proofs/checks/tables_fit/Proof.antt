@@ -2,7 +2,7 @@
 use mathlib.Core.Path.{ap, sym, _∙_}
 use native.Mathlib.Omega.{arith}
 use borrow.Author.Needs.{needs}
-use Rattle.base.specs.Decides.{test-failed, test-passed}
+use Rattle.base.specs.Reflects.{test-failed, test-passed}
 use Rattle.query_simulation.specs.TablesLaws.{heads-none, heads-many, heads-wrong, moves-cut, moves-many, moves-left}
 use Rattle.refusals.specs.Check.{check}
 use Rattle.query_checker.proofs.checks.tables_fit.Statement.{statement}

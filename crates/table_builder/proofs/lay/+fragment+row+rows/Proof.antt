@@ -132,9 +132,10 @@ fragment-first-of-requires t c κs =
 
 fragment-rows-requires : (t : ℕ) → fragment-lts.Need-rows-requires (fragment-claims t) (fragment-at t) fragment.Post
 fragment-rows-requires t c κs =
-    let pre = c .before .before .before .before .before .before .before .before .before .before .before .before .before .before .pre in
+    let entry = c .before .before .before .before .before .before .before .before .before .before .before .before .before .before in
+    let pre = entry .pre in
     let letters = c .before .before .before .before .before .letters in
-    (omega (arith, pre .0), (ready-lettered (pre .1) (letters .ensures) (letters .kept .1 .1 .1 .0), (λ ρs i. rw (c .before .before .first-of .ensures) (at-start i (c .before .before .before .before .before .before .before .before .before .before .before .before .before .before .args .role) (pre .1 .role)), c .before .before .before .before .before .before .before .before .before .before .if1 .left)))
+    (omega (arith, pre .0), (ready-lettered (pre .1) (letters .ensures) (letters .kept .1 .1 .1 .0), (λ ρs i. rw (c .before .before .first-of .ensures) (at-start i (entry .args .role) (pre .1 .role)), c .before .before .before .before .before .before .before .before .before .before .if1 .left)))
 
 fragment-first-mirror-requires : (t : ℕ) → fragment-lts.Need-first-mirror-requires (fragment-claims t) (fragment-at t) fragment.Post
 fragment-first-mirror-requires t c κs =
@@ -143,8 +144,9 @@ fragment-first-mirror-requires t c κs =
 
 fragment-rows-requires-2 : (t : ℕ) → fragment-lts.Need-rows-requires-2 (fragment-claims t) (fragment-at t) fragment.Post
 fragment-rows-requires-2 t c κs =
-    let pre = c .before .before .before .before .before .before .before .before .before .before .before .before .before .before .before .before .before .before .before .before .before .before .before .pre in
-    let args = c .before .before .before .before .before .before .before .before .before .before .before .before .before .before .before .before .before .before .before .before .before .before .before .args in
+    let entry = c .before .before .before .before .before .before .before .before .before .before .before .before .before .before .before .before .before .before .before .before .before .before .before in
+    let pre = entry .pre in
+    let args = entry .args in
     (omega (arith, pre .0, ap (level-in (args .index .now)) (ap name (c .before .before .inverse .ensures) ∙ name-inv (args .role))), (ready-laid (pre .1) (c .before .before .before .before .before .before .before .before .rows .ensures) _ (rw (c .before .before .inverse .ensures) (inv-below _ 64 (pre .1 .role))), (λ ρs i. rw (c .before .before .inverse .ensures) (c .before .before .before .first-mirror .ensures .here ρs i), c .before .before .before .before .before .before .before .before .before .before .before .before .before .before .before .before .before .before .before .if1 .left)))
 
 fragment-keep-requires : (t : ℕ) → fragment-lts.Need-keep-requires (fragment-claims t) (fragment-at t) fragment.Post
@@ -176,8 +178,9 @@ row-inner-role-requires t c κs = (c .before .before .before .before .if2 .taken
 
 row-fragment-requires : (t : ℕ) → row-lts.Need-fragment-requires (row-claims t) (row-at t) row.Post Inv-loop μ-loop
 row-fragment-requires t c κs =
-    let pre = c .before .before .before .before .before .before .before .before .before .before .before .before .before .before .before .before .pre in
-    let args = c .before .before .before .before .before .before .before .before .before .before .before .before .before .before .before .before .args in
+    let entry = c .before .before .before .before .before .before .before .before .before .before .before .before .before .before .before .before in
+    let pre = entry .pre in
+    let args = entry .args in
     let transition = c .before .before .before .before .before .transition in
     (omega (arith, pre .0, c .before .before .inner-role .ensures .lower (level-in (args .index .now) (name (args .role))) (c .before .before .before .before .before .before .before .before .before .before .before .before .row-of .ensures .inner)), ready-added (pre .1 .0) (transition .ensures) (transition .kept .1 .1 .1 .1 .1 .0) (c .before .before .before .before .before .before .before .before .before .loop .inv .memo) _ (c .before .before .inner-role .ensures .small))
 
@@ -220,9 +223,10 @@ rows-number-requires t c κs = omega (arith, c .before .before .before .before .
 
 rows-rows-requires : (t : ℕ) → rows-lts.Need-rows-requires (rows-claims t) (rows-at t) rows.Post
 rows-rows-requires t c κs =
-    let pre = c .before .before .before .before .before .before .before .before .before .before .before .before .before .before .pre in
+    let entry = c .before .before .before .before .before .before .before .before .before .before .before .before .before .before in
+    let pre = entry .pre in
     let if1 = c .before .before .before .before .before .before .before .before .before .before .if1 in
-    let args = c .before .before .before .before .before .before .before .before .before .before .before .before .before .before .args in
+    let args = entry .args in
     (omega (arith, pre .0, if1 .left, c .before .before .number .ensures .0, later (pre .1 .0 .index) (args .role) (args .k) (if1 .left) (pre .1 .1 .0 (pre .1 .0 .rules) (pre .1 .0 .index))), (ready-laid (pre .1 .0) (c .before .before .before .before .before .before .before .row .ensures) _ (pre .1 .0 .role), (here-next _ _ (args .initial) (pre .1 .1 .0) (if1 .left) _ (c .before .before .number .ensures .0), pre .1 .1 .1)))
 
 rows-returns-2 : (t : ℕ) → rows-lts.Need-returns-2 (rows-claims t) (rows-at t) rows.Post

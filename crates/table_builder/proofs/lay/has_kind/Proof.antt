@@ -24,10 +24,11 @@ number-requires-2 c κs = omega (arith, c .before .before .loop-test .taken, c .
 
 loop-less : tie.Need-loop-less Inv-loop μ-loop
 loop-less c =
+    let entry = c .before .before .before .before .before .before .before in
     let loop-test = c .before .before .before .loop-test in
-    let pre = c .before .before .before .before .before .before .before .pre in
+    let pre = entry .pre in
     let loop = c .before .before .before .before .loop in
-    omega (arith, c .number2 .ensures .0, loop-test .taken, later (pre .0 .1) (c .before .before .before .before .before .before .before .args .role) (loop .k) (loop-test .taken) (loop .inv (pre .0 .0) (pre .0 .1) .at))
+    omega (arith, c .number2 .ensures .0, loop-test .taken, later (pre .0 .1) (entry .args .role) (loop .k) (loop-test .taken) (loop .inv (pre .0 .0) (pre .0 .1) .at))
 
 loop-again : tie.Need-loop-again Inv-loop μ-loop
 loop-again c = λ ρs i. seeking-next i _ _ (c .before .before .before .before .before .before .before .pre .2) _ (c .before .before .before .loop-test .taken) (c .before .before .before .before .loop .inv ρs i) (λ e. c .before .if1 .left (c .before .before .number .ensures .0 ∙ e)) _ (c .number2 .ensures .0)

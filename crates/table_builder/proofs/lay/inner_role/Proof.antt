@@ -10,8 +10,9 @@ use Rattle.table_builder.proofs.lay.inner_role.Tie as tie
 
 cast-inverse : tie.Need-cast-inverse
 cast-inverse c =
-    let pre = c .before .before .before .before .pre in
-    let args = c .before .before .before .before .args in
+    let entry = c .before .before .before .before in
+    let pre = entry .pre in
+    let args = entry .args in
     omega (arith, c .number .ensures .0, (pre .1 .1 .roles (args .row .size - 1 - args .j) (omega (arith, pre .0)) .0))
 
 returns : tie.Need-returns

@@ -13,13 +13,15 @@ returns c =
 
 sub-t10 : tie.Need-sub-t10
 sub-t10 c =
-    let pre = c .before .before .before .before .before .before .pre in
-    omega (arith, c .before .before .before .number2 .ensures .0, pre .0 .1 .entry (c .before .before .before .before .before .before .args .k) (pre .1 (pre .0 .0) (pre .0 .1) .real (pre .2)) .to)
+    let entry = c .before .before .before .before .before .before in
+    let pre = entry .pre in
+    omega (arith, c .before .before .before .number2 .ensures .0, pre .0 .1 .entry (entry .args .k) (pre .1 (pre .0 .0) (pre .0 .1) .real (pre .2)) .to)
 
 sub-t16 : tie.Need-sub-t16
 sub-t16 c =
-    let pre = c .before .before .before .before .before .before .pre in
-    omega (arith, c .before .before .before .before .number .ensures .0, pre .0 .1 .entry (c .before .before .before .before .before .before .args .k) (pre .1 (pre .0 .0) (pre .0 .1) .real (pre .2)) .from)
+    let entry = c .before .before .before .before .before .before in
+    let pre = entry .pre in
+    omega (arith, c .before .before .before .before .number .ensures .0, pre .0 .1 .entry (entry .args .k) (pre .1 (pre .0 .0) (pre .0 .1) .real (pre .2)) .from)
 
 returns-2 : tie.Need-returns-2
 returns-2 c =

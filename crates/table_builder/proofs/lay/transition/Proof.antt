@@ -18,10 +18,14 @@ returns-3 : tie.Need-returns-3
 returns-3 c = record { small = c .before .before .before .pre .0; same = refl; laid = rw (not-false (c .before .before .before .args .present) (c .before .before .if1 .left)) (laid-full _ _ _ _ (c .if3 .taken)) }
 
 returns-4 : tie.Need-returns-4
-returns-4 c = record { small = record { state = c .before .before .before .before .pre .0 .state; count = omega (arith, c .before .if3 .left) }; same = refl; laid = rw (not-false (c .before .before .before .before .args .present) (c .before .before .before .if1 .left)) (laid-short _ _ _ _ (c .if4 .taken)) }
+returns-4 c =
+    let entry = c .before .before .before .before in
+    record { small = record { state = entry .pre .0 .state; count = omega (arith, c .before .if3 .left) }; same = refl; laid = rw (not-false (entry .args .present) (c .before .before .before .if1 .left)) (laid-short _ _ _ _ (c .if4 .taken)) }
 
 returns-5 : tie.Need-returns-5
-returns-5 c = record { small = record { state = c .before .before .before .before .pre .0 .state; count = omega (arith, c .before .if3 .left) }; same = refl; laid = rw (not-false (c .before .before .before .before .args .present) (c .before .before .before .if1 .left)) (laid-one _ _ _ _) }
+returns-5 c =
+    let entry = c .before .before .before .before in
+    record { small = record { state = entry .pre .0 .state; count = omega (arith, c .before .if3 .left) }; same = refl; laid = rw (not-false (entry .args .present) (c .before .before .before .if1 .left)) (laid-one _ _ _ _) }
 
 pub transition-spec : {M : Type 1} → statement M
 transition-spec =

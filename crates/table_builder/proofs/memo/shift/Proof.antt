@@ -30,19 +30,27 @@ number-requires : tie.Need-number-requires Inv-loop μ-loop
 number-requires c κs = omega (arith, c .before .loop-test .taken, c .before .before .before .before .pre .0, c .before .before .loop .inv .same)
 
 add-begins : tie.Need-add-begins Inv-loop μ-loop
-add-begins c = omega (arith, c .number .ensures .0, shifting-near _ _ _ _ _ _ _ (c .before .before .before .loop .inv) (c .before .before .before .before .before .pre .0 .0) (c .before .before .loop-test .taken) (c .before .before .before .before .before .pre .1) .0)
+add-begins c =
+    let entry = c .before .before .before .before .before in
+    omega (arith, c .number .ensures .0, shifting-near _ _ _ _ _ _ _ (c .before .before .before .loop .inv) (entry .pre .0 .0) (c .before .before .loop-test .taken) (entry .pre .1) .0)
 
 add-ends : tie.Need-add-ends Inv-loop μ-loop
-add-ends c = omega (arith, c .number2 .ensures .0, shifting-near _ _ _ _ _ _ _ (c .before .before .before .before .before .before .loop .inv) (c .before .before .before .before .before .before .before .before .pre .0 .0) (c .before .before .before .before .before .loop-test .taken) (c .before .before .before .before .before .before .before .before .pre .1) .1)
+add-ends c =
+    let entry = c .before .before .before .before .before .before .before .before in
+    omega (arith, c .number2 .ensures .0, shifting-near _ _ _ _ _ _ _ (c .before .before .before .before .before .before .loop .inv) (entry .pre .0 .0) (c .before .before .before .before .before .loop-test .taken) (entry .pre .1) .1)
 
 cast-moves : tie.Need-cast-moves Inv-loop μ-loop
-cast-moves c = omega (arith, c .before .before .before .number .ensures .0, shifting-near _ _ _ _ _ _ _ (c .before .before .before .before .before .before .loop .inv) (c .before .before .before .before .before .before .before .before .pre .0 .0) (c .before .before .before .before .before .loop-test .taken) (c .before .before .before .before .before .before .before .before .pre .1) .0)
+cast-moves c =
+    let entry = c .before .before .before .before .before .before .before .before in
+    omega (arith, c .before .before .before .number .ensures .0, shifting-near _ _ _ _ _ _ _ (c .before .before .before .before .before .before .loop .inv) (entry .pre .0 .0) (c .before .before .before .before .before .loop-test .taken) (entry .pre .1) .0)
 
 slice-write-moves-2 : tie.Need-slice-write-moves-2 Inv-loop μ-loop
 slice-write-moves-2 c = simp length-set (omega (arith, c .before .before .before .before .before .loop-test .taken, c .before .before .before .before .before .before .before .before .pre .0 .1, c .before .before .before .before .before .before .loop .inv .same))
 
 cast-moves-2 : tie.Need-cast-moves-2 Inv-loop μ-loop
-cast-moves-2 c = omega (arith, c .number2 .ensures .0, shifting-near _ _ _ _ _ _ _ (c .before .before .before .before .before .before .loop .inv) (c .before .before .before .before .before .before .before .before .pre .0 .0) (c .before .before .before .before .before .loop-test .taken) (c .before .before .before .before .before .before .before .before .pre .1) .1)
+cast-moves-2 c =
+    let entry = c .before .before .before .before .before .before .before .before in
+    omega (arith, c .number2 .ensures .0, shifting-near _ _ _ _ _ _ _ (c .before .before .before .before .before .before .loop .inv) (entry .pre .0 .0) (c .before .before .before .before .before .loop-test .taken) (entry .pre .1) .1)
 
 slice-write-moves-3 : tie.Need-slice-write-moves-3 Inv-loop μ-loop
 slice-write-moves-3 c = simp length-set (omega (arith, c .before .before .before .before .before .loop-test .taken, c .before .before .before .before .before .before .before .before .pre .0 .1, c .before .before .before .before .before .before .loop .inv .same))

@@ -3,15 +3,15 @@ use mathlib.Core.Bool.{Bool, true, false, not, true≢false, false≢true}
 use mathlib.Core.Path.{_≡_, sym, _∙_}
 use borrow.Author.Tests.{not-true, not-false}
 
-pub record Decides (b : Bool) (A : Type 0) : Type 0 where
+pub record Reflects (b : Bool) (A : Type 0) : Type 0 where
   pub holds : b ≡ true → A
   pub fails : b ≡ false → A → ⊥
 
 module _ (A : Type 0) where
-  pub decides-yes : A → Decides true A
+  pub decides-yes : A → Reflects true A
   decides-yes a = record { holds = λ h. a; fails = λ h. absurd (true≢false h) }
 
-  pub decides-no : (A → ⊥) → Decides false A
+  pub decides-no : (A → ⊥) → Reflects false A
   decides-no n = record { holds = λ h. absurd (false≢true h); fails = λ h. n }
 
 module _ (b t : Bool) (answer : b ≡ t) where
