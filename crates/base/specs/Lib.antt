@@ -7,3 +7,5 @@ pub mod ResultLaws
 pub mod Part
 pub mod Decision
 pub mod Writing
+pub mod DecisionLaws
+pub mod WritingLaws

@@ -1,28 +1,7 @@
--- Numbers written over others: new ones over the front of old ones, and stores one after another.
-use mathlib.Core.List.{List, [], _∷_, _++_}
-use mathlib.Core.Path.{_≡_, refl, ap, _∙_}
-use Prim.Native.Nat.{ℕ, suc, _+_, _≤_}
-use native.Mathlib.Nat.{zero-add, add-zero}
-use native.Mathlib.Omega.{arith}
-use lib.ListN.{length, take, drop, set, length-append, length-drop}
-use lib.Seq.{sets, sets-eq, take-append-seam}
+-- New numbers written over the front of old ones.
+use mathlib.Core.List.{List, _++_}
+use Prim.Native.Nat.{ℕ}
+use lib.ListN.{length, drop}
 
--- new numbers over the front of old ones
 abbrev pub over : List ℕ → List ℕ → List ℕ
 over new old = new ++ drop (length new) old
-
--- it is as long as the old ones, and the new ones are its front
-pub over-length : (new old : List ℕ) → length new ≤ length old → length (over new old) ≡ length old
-over-length new old h = omega (arith, length-append new (drop (length new) old), length-drop (length new) old)
-
-pub over-front : (n : ℕ) (new old : List ℕ) → n ≡ length new → take n (over new old) ≡ new
-over-front n new old h = rw h (take-append-seam new (drop (length new) old))
-
--- numbers stored from the front on are the new numbers over the old
-pub sets-over : (new old : List ℕ) → length new ≤ length old → sets old 0 new ≡ over new old
-sets-over new old h = sets-eq new old 0 (rw zero-add h) ∙ ap (λ (k : ℕ). new ++ drop k old) (zero-add (length new))
-
--- stores after stores
-pub sets-append : (s : List ℕ) (i : ℕ) (v w : List ℕ) → sets (sets s i v) (i + length v) w ≡ sets s i (v ++ w)
-sets-append s i [] w = rw add-zero refl
-sets-append s i (x ∷ v) w = let e : i + suc (length v) ≡ suc i + length v = omega arith in rw e (sets-append (set s i x) (suc i) v w)

@@ -10,7 +10,7 @@ use borrow.Author.Tests.{le-leb, lt-leb}
 use lib.Dec.{leb}
 use lib.ListN.{length, getD, take, set}
 use lib.Seq.{sets, take-suc, take-all, length-take-le}
-use Rattle.base.specs.Writing.{sets-append}
+use Rattle.base.specs.WritingLaws.{sets-append}
 use Rattle.roles.specs.Rule.{Rule}
 use Rattle.book_format.specs.Encode.{header, rule-bytes}
 use Rattle.book_writer.specs.BookStores.{has-room, put-rule, after-rule, RulePut, put-header}

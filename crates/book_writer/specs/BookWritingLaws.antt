@@ -11,7 +11,7 @@ use Rattle.roles.specs.Rule.{Rule, Book}
 use Rattle.book_format.specs.Format.{decode}
 use Rattle.book_format.specs.Encode.{header, rule-bytes, rules-bytes, encode, Encodable}
 use Rattle.book_format.specs.EncodeLaws.{length-header, length-rule-bytes, length-encode, rules-bytes-last, rules-bytes-most, decode-front}
-use Rattle.base.specs.Writing.{sets-append}
+use Rattle.base.specs.WritingLaws.{sets-append}
 use Rattle.book_writer.specs.BookStores.{RulePut, put-header}
 use Rattle.book_writer.specs.BookStoreLaws.{put-rule-room, after-rule-room, put-header-room}
 use Rattle.book_writer.specs.BookWriting.{Writing, Written}

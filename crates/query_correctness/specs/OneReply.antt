@@ -6,7 +6,7 @@ use Prim.Native.Nat.{ℕ}
 use Rattle.roles.specs.Role.{Chain}
 use Rattle.roles.specs.Rule.{Book}
 use Rattle.base.specs.Result.{Result}
-use Rattle.base.specs.Decision.{same-refusal, not-both, decision-one}
+use Rattle.base.specs.DecisionLaws.{same-refusal, not-both, decision-one}
 use Rattle.book_causes.specs.AcceptedLaws.{building-one}
 use Rattle.query_causes.specs.Query.{Answered}
 use Rattle.query_correctness.specs.Reply.{Decided, Replied}

@@ -10,7 +10,7 @@ use borrow.Author.Tests.{leb-true, leb-false}
 use lib.Dec.{leb}
 use lib.ListN.{length, drop}
 use lib.Seq.{sets, sets-eq}
-use Rattle.base.specs.Writing.{sets-over}
+use Rattle.base.specs.WritingLaws.{sets-over}
 use Rattle.base.specs.Truth.{and-left, and-right, lt-or-le}
 use Rattle.roles.specs.Rule.{Book}
 use Rattle.base.specs.Result.{Result, map-result}

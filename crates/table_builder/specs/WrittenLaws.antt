@@ -6,7 +6,8 @@ use Prim.Native.Nat.{ℕ, _*_, _≤_}
 use native.Mathlib.Omega.{arith}
 use lib.ListN.{length, take, drop, length-append, length-drop}
 use lib.Seq.{take-append-seam}
-use Rattle.base.specs.Writing.{over, over-length, over-front}
+use Rattle.base.specs.Writing.{over}
+use Rattle.base.specs.WritingLaws.{over-length, over-front}
 use Rattle.roles.specs.Rule.{Book}
 use Rattle.tables.specs.Tables.{transitions}
 use Rattle.base.specs.Result.{Result, map-result}

@@ -10,7 +10,7 @@ use native.Mathlib.Numerals.{add-one, add-two}
 use native.Mathlib.Omega.{arith}
 use lib.ListN.{length, getD, set, length-set, length-append}
 use lib.Seq.{sets, length-sets, getD-set-same, getD-set-other}
-use Rattle.base.specs.Writing.{sets-append}
+use Rattle.base.specs.WritingLaws.{sets-append}
 use Rattle.base.specs.Truth.{lt-or-le}
 use Rattle.roles.specs.Role.{Chain}
 use Rattle.order.specs.Shape.{End, Shape}

@@ -12,7 +12,7 @@ use Rattle.base.specs.Writing.{over}
 use Rattle.table_laying.specs.Pieces.{length-numbers, length-roots}
 use Rattle.table_builder.specs.declared.Outcome.{Outcome}
 use Rattle.table_builder.specs.Builds.{counts-of, says, Builds}
-use Rattle.base.specs.Writing.{over-front}
+use Rattle.base.specs.WritingLaws.{over-front}
 use Rattle.transcript_lines.specs.Lines.{first-line}
 use Rattle.line_writer.specs.Puts.{Puts}
 use Rattle.line_writer.specs.PutsLaws.{puts-as}
