@@ -6,6 +6,8 @@ use mathlib.Core.Path.{_≡_, refl, sym, ap, ap₂, _∙_}
 use Prim.Native.Nat.{ℕ, zero, suc, _+_, _-_, _<_, _≤_}
 use native.Mathlib.Nat.{zero-add}
 use native.Mathlib.Omega.{arith}
+use borrow.Author.Tests.{ltb-true, ltb-false}
+use lib.Dec.{ltb}
 use lib.ListN.{length, getD, set, take, drop, length-set, length-drop}
 use lib.Seq.{getD-drop, drop-drop, take-suc-set, drop-set-lt}
 use Rattle.words.specs.Word.{word}
@@ -14,14 +16,17 @@ use mir.Val.{boolByte}
 use Rattle.base.specs.Reflects.{Reflects}
 use Rattle.base.specs.Result.Result.{refused, ok}
 use Rattle.roles.specs.Role.{name}
-use Rattle.query_causes.specs.Query.{tables-fit, question, query, Accepts, Answered}
+use Rattle.query_causes.specs.Query.{tables-fit, question, query, asked, Accepts, Answered}
 use Rattle.base.specs.Decision.Decision.{refuses, yes, no}
 use Rattle.query_causes.specs.Input.{links-of, Broken}
+use Rattle.refusals.specs.Check.{check, check-passed, check-failed}
+use Rattle.refusals.specs.declared.check.Check.{Check}
+use Rattle.refusals.specs.declared.check.Check.the-variants.{Passed, Failed}
 use Rattle.refusals.specs.QueryRefusals.{query-cause}
 use Rattle.refusals.specs.declared.query.QueryRefusal.{QueryRefusal}
 use Rattle.refusals.specs.declared.query.QueryRefusal.the-variants.{Tables, Chain, Role}
-use Rattle.query_simulation.specs.QueryLaws.{query-tables, query-question, named-role, askable}
-use Rattle.query_simulation.specs.Reading.{Readable}
+use Rattle.query_simulation.specs.QueryLaws.{query-tables, query-question, named-head, askable, accepted}
+use Rattle.query_simulation.specs.Reading.{Leads, Readable}
 use Rattle.query_simulation.specs.States.{Unused, Renewed}
 use Rattle.query_simulation.specs.StatesLaws.{unused-later}
 use Rattle.query_simulation.specs.TablesLaws.{tables}
@@ -194,13 +199,13 @@ module _ {heads moves : List ℕ} {names stamp : ℕ} {space : List ℕ} (ready 
       asked-refused x e b d =
           record { answered = refused-told heads moves role chain x (query-is ∙ e) b d; ready = ready-later (stamp + size) (omega arith) }
 
-      module _ (fits : question names role chain ≡ ok tt) where
-        pub ready-named : name role < length heads
-        ready-named = named-role heads moves role chain (query-is ∙ fits)
+      module _ (fits : question names role chain ≡ ok tt) {n : ℕ} (e : n ≡ name role) where
+        pub ready-named : n < length heads
+        ready-named = named-head heads moves role chain (query-is ∙ fits) e
 
-        pub ready-readable : stamp ≤ 64000 → Readable moves 2048 stamp (getD heads (name role) 0) chain space
+        pub ready-readable : stamp ≤ 64000 → Readable moves 2048 stamp (getD heads n 0) chain space
         ready-readable early =
-            let a = askable heads moves role chain (query-is ∙ fits) in
+            let a = askable heads moves role chain (query-is ∙ fits) e in
             record {
               prepared = record { unused = ready .unused; indexed = ready .fit some .2 };
               letters = a .letters;
@@ -218,6 +223,18 @@ module _ {heads moves : List ℕ} {names stamp : ℕ} {space : List ℕ} (ready 
                 fit = λ more. (f .0, f .1, left .indexed);
               }
 
-          pub asked-decided : (b : Bool) → Reflects b (Accepts heads moves role chain) → Asked heads moves names q read size (boolByte b) (stamp + size) space′
-          asked-decided true d = record { answered = yes (query-is ∙ fits) (d .holds refl); ready = ready-after }
-          asked-decided false d = record { answered = no (query-is ∙ fits) (d .fails refl); ready = ready-after }
+          decided : (b : Bool) → Reflects b (Accepts heads moves role chain) → Asked heads moves names q read size (boolByte b) (stamp + size) space′
+          decided true d = record { answered = yes (query-is ∙ fits) (d .holds refl); ready = ready-after }
+          decided false d = record { answered = no (query-is ∙ fits) (d .fails refl); ready = ready-after }
+
+          pub asked-decided : {b : Bool} → Reflects b (Leads moves (getD heads n 0) (asked role chain) (getD heads n 0 + 1))
+              → Asked heads moves names q read size (boolByte b) (stamp + size) space′
+          asked-decided {b} d = decided b (accepted heads moves role chain (query-is ∙ fits) e d)
+
+-- whether tables have a name, as the check finds it
+module _ {names : ℕ} {r : Check} (e : r ≡ check (ltb 0 names)) where
+  pub known-some : r ≡ Passed → names ≡ 0 → ⊥
+  known-some h z = omega (arith, ltb-true 0 names (check-passed _ _ e h))
+
+  pub known-none : r ≡ Failed → names ≡ 0
+  known-none h = omega (arith, ltb-false 0 names (check-failed _ _ e h))

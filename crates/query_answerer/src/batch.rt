@@ -2,14 +2,16 @@
 // number of links (16 bits, low byte first), links.
 ghost use mathlib.Core.Path.{_≡_};
 ghost use Prim.Native.Nat.{_+_, _≤_};
+ghost use lib.Dec.{ltb};
 ghost use lib.ListN.{length, drop};
-ghost use Rattle.query_causes.specs.Query.{Answered};
-ghost use Rattle.query_answerer.specs.Batch.{told, WholeSize, Ready, Asked, Batches};
+ghost use Rattle.refusals.specs.Check.{check};
+ghost use Rattle.query_answerer.specs.Batch.{WholeSize, Ready, Asked, Batches};
 use crate::index::fill_index;
 use crate::reading::run;
 use crate::states::renew;
 use query_checker::QueryVerdict;
 use refusals::Check;
+use refusals::QueryRefusal;
 use role_bytes::name;
 use words::word;
 
@@ -96,9 +98,9 @@ fn answer(
     requires { ⌜ (stamp ≤ 64000) × (3 ≤ size) × (read + size ≤ length (now input)) ⌝ }
     ensures { λ r. ⌜ Asked (now (heads .entry)) (now (moves .entry)) names (now (input .entry)) read size r (stamp + size) (now (space .exit)) ⌝ }
 {
-    if names == 0 {
-        return 12;
-    }
+    let Check::Passed = known(names) else {
+        return refusals::query_cause(QueryRefusal::Tables) as u8;
+    };
     let role = input[read];
     let chain = &input[read + 3..read + size];
     let question = query_checker::check_for(names, role, chain);
@@ -109,4 +111,14 @@ fn answer(
             run(moves, 2048, role, chain, head, stamp, space) as u8
         }
     }
+}
+
+// Cause 12: tables that fit have a name.
+fn known(names: u8) -> Check
+    ensures { λ r. ⌜ r ≡ check (ltb 0 names) ⌝ }
+{
+    if names == 0 {
+        return Check::Failed;
+    }
+    Check::Passed
 }

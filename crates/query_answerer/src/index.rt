@@ -3,8 +3,8 @@
 // transition, and at 5 room + k the last one before transition k in its list.
 ghost use mathlib.Core.Bool.{true};
 ghost use mathlib.Core.Path.{_≡_};
-ghost use Prim.Native.Nat.{_≤_};
-ghost use Rattle.query_simulation.specs.Transitions.{transition-count, Fit, Small};
+ghost use Prim.Native.Nat.{_+_, _<_};
+ghost use Rattle.query_simulation.specs.Transitions.{transition-count, Fits, Fit};
 ghost use Rattle.query_simulation.specs.TransitionIndex.{Prepared};
 
 // Enters every transition, in one pass, into an index whose lists are empty.
@@ -16,28 +16,39 @@ pub(crate) fn fill_index(moves: &[u16], room: usize, space: &mut [u16])
     let count = moves.len() / 3;
     let mut k = 0;
     while k < count {
-        let place = 3 * k;
-        let silent = moves[place + 1] / 128;
-        let list = 3 * room + (2 * moves[place] as usize + silent as usize);
-        space[5 * room + k] = space[list];
+        enter(moves, room, space, k);
         k += 1;
-        space[list] = k as u16;
     }
 }
 
-// Whether there are at most 192 transitions, and their states and the next one after `head` are below 64.
-pub(crate) fn is_small(moves: &[u16], head: usize) -> bool
-    requires { ⌜ Fit 2048 (now moves) × (head ≤ 2046) ⌝ }
-    ensures { λ r. ⌜ (r ≡ true → Small (now (moves .entry)) head) ⌝ }
+// The same where every state is below the room; whether each is. The bits of both states of a transition are tested at once.
+pub(crate) fn fill_within(moves: &[u16], room: u16, space: &mut [u16]) -> bool
+    requires { ⌜ Fit 2048 (now moves) ⌝ }
+    requires { ⌜ Prepared room 1 (now moves) 0 (now space) ⌝ }
+    ensures { λ r. ⌜ (r ≡ true → Prepared room 1 (now (moves .entry)) (transition-count (now (moves .entry))) (now (space .exit))) ⌝ }
 {
-    if 576 < moves.len() {
-        return false;
+    let count = moves.len() / 3;
+    let mut k = 0;
+    while k < count {
+        let place = 3 * k;
+        if room <= moves[place] | moves[place + 2] {
+            return false;
+        }
+        enter(moves, room as usize, space, k);
+        k += 1;
     }
-    let mut most = head + 1;
-    let mut i = 0;
-    while i + 2 < moves.len() {
-        most = most | moves[i] as usize | moves[i + 2] as usize;
-        i += 3;
-    }
-    most < 64
+    true
+}
+
+// Enters transition k after those before it.
+fn enter(moves: &[u16], room: usize, space: &mut [u16], k: usize)
+    requires { ⌜ Prepared room 1 (now moves) k (now space) ⌝ }
+    requires { ⌜ (k < transition-count (now moves)) × Fits room (now moves) k ⌝ }
+    ensures { λ _. ⌜ Prepared room 1 (now (moves .entry)) (k + 1) (now (space .exit)) ⌝ }
+{
+    let place = 3 * k;
+    let silent = moves[place + 1] / 128;
+    let list = 3 * room + (2 * moves[place] as usize + silent as usize);
+    space[5 * room + k] = space[list];
+    space[list] = (k + 1) as u16;
 }

@@ -1,11 +1,9 @@
 // Answers a question put to tables: whether they accept a chain for a role, or the first cause of document 01, 12 to 14, that refuses
 // the question.
-ghost use Prim.Native.Nat.{_+_, _<_};
+ghost use Prim.Native.Nat.{_+_};
 ghost use Rattle.query_causes.specs.Query.{asked, Answered};
 ghost use Rattle.base.specs.Reflects.{Reflects};
-ghost use Rattle.query_simulation.specs.Transitions.{Fit};
-ghost use Rattle.query_simulation.specs.TransitionIndex.{Prepared};
-ghost use Rattle.query_simulation.specs.Reading.{Letters, Leads, Askable};
+ghost use Rattle.query_simulation.specs.Reading.{Leads, Askable};
 ghost use Rattle.query_answerer.specs.Answer.{says};
 
 mod batch;
@@ -16,7 +14,7 @@ mod states;
 pub use batch::Batch;
 pub use batch::ask_all;
 use index::fill_index;
-use index::is_small;
+use index::fill_within;
 use query_checker::QueryVerdict;
 use reading::run;
 use refusals::QueryRefusal;
@@ -55,29 +53,20 @@ fn accepts(moves: &[u16], role: u8, chain: &[u8], head: usize) -> bool
     requires { ⌜ Askable (now moves) head (now chain) ⌝ }
     ensures { λ r. ⌜ Reflects r (Leads (now (moves .entry)) head (asked role (now (chain .entry))) (head + 1)) ⌝ }
 {
-    if is_small(moves, head) {
-        let mut few = [0u16; 512];
-        return decide(moves, 64, role, chain, head, &mut few);
+    if head < 63 && moves.len() <= 576 {
+        let mut space = [0u16; 512];
+        if fill_within(moves, 64, &mut space) {
+            return run(moves, 64, role, chain, head, 1, &mut space);
+        }
     }
-    let mut many = [0u16; 15360];
-    decide(moves, 2048, role, chain, head, &mut many)
+    accepts_many(moves, role, chain, head)
 }
 
-// The same in space for an index and sets.
-fn decide(
-    moves: &[u16],
-    room: usize,
-    role: u8,
-    chain: &[u8],
-    head: usize,
-    space: &mut [u16],
-) -> bool
-    requires { ⌜ Fit room (now moves) ⌝ }
-    requires { ⌜ Prepared room 1 (now moves) 0 (now space) ⌝ }
-    requires { ⌜ Letters (now chain) ⌝ }
-    requires { ⌜ head + 1 < room ⌝ }
+fn accepts_many(moves: &[u16], role: u8, chain: &[u8], head: usize) -> bool
+    requires { ⌜ Askable (now moves) head (now chain) ⌝ }
     ensures { λ r. ⌜ Reflects r (Leads (now (moves .entry)) head (asked role (now (chain .entry))) (head + 1)) ⌝ }
 {
-    fill_index(moves, room, space);
-    run(moves, room, role, chain, head, 1, space)
+    let mut space = [0u16; 15360];
+    fill_index(moves, 2048, &mut space);
+    run(moves, 2048, role, chain, head, 1, &mut space)
 }

@@ -116,8 +116,9 @@ fn spread(
     let mut all = count;
     let mut at = space[3 * room + slot] as usize;
     while 0 < at {
+        let next = space[5 * room + at - 1] as usize;
         all = meet(moves, room, at - 1, label, space, list, stamp, all);
-        at = space[5 * room + at - 1] as usize;
+        at = next;
     }
     all
 }

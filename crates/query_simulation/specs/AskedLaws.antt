@@ -1,5 +1,5 @@
 -- The chain that is asked, link by link: the chain itself or its inverse, and what is read of it.
-use mathlib.Core.Bool.{Bool, true, false}
+use mathlib.Core.Bool.{true, false}
 use mathlib.Core.List.{List}
 use mathlib.Core.Path.{_≡_, refl, sym}
 use Prim.Native.Nat.{ℕ, _+_, _*_, _-_, _<_}

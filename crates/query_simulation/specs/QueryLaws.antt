@@ -1,8 +1,8 @@
 -- Laws of questions: the first refusal met, what a question that is not refused has passed, and what it then says of its roles.
-use mathlib.Core.Bool.{true, false}
+use mathlib.Core.Bool.{Bool, true, false}
 use mathlib.Core.List.{List, _∷_}
 use mathlib.Core.Path.{_≡_, refl}
-use Prim.Native.Nat.{ℕ, zero, suc, _*_, _<_, _≤_}
+use Prim.Native.Nat.{ℕ, zero, suc, _+_, _*_, _<_, _≤_}
 use native.Mathlib.Omega.{arith}
 use lib.ListN.{length, getD}
 use Rattle.roles.specs.Role.{Chain, name}
@@ -13,7 +13,9 @@ use Rattle.book_format.specs.DeclaredLaws.{named-all, named-link}
 use borrow.Author.Tests.{leb-true}
 use lib.Dec.{leb}
 use Rattle.base.specs.Truth.{and-right}
-use Rattle.query_causes.specs.Query.{tables-fit, chain-fits, question, query}
+use Rattle.base.specs.Reflects.{Reflects}
+use Rattle.tables.specs.Path.{Path}
+use Rattle.query_causes.specs.Query.{transitions-in, tables-fit, chain-fits, question, query, asked, Accepts}
 use Rattle.query_simulation.specs.Reading.{Letters, Askable}
 use Rattle.query_simulation.specs.TablesLaws.{Tables, tables}
 
@@ -76,7 +78,7 @@ module _ (heads moves : List ℕ) (r : ℕ) (w : Chain) (passed : query heads mo
   fitting : Tables heads moves
   fitting = tables heads moves (passed-tables heads moves r w passed)
 
-  pub named-role : name r < length heads
+  named-role : name r < length heads
   named-role = role-named (length heads) r w (passed-roles heads moves r w passed)
 
   letters : Letters w
@@ -86,6 +88,14 @@ module _ (heads moves : List ℕ) (r : ℕ) (w : Chain) (passed : query heads mo
         small = link-named (length heads) r w (fitting .few-heads) (passed-roles heads moves r w passed);
       }
 
-  pub askable : Askable moves (getD heads (name r) 0) w
-  askable =
-      record { few = fitting .few; fit = fitting .fit; low = fitting .small-heads (name r) named-role; letters = letters }
+  -- by the number of its name
+  module _ {n : ℕ} (e : n ≡ name r) where
+    pub named-head : n < length heads
+    named-head = rw e named-role
+
+    pub askable : Askable moves (getD heads n 0) w
+    askable =
+        record { few = fitting .few; fit = fitting .fit; low = fitting .small-heads n named-head; letters = letters }
+
+    pub accepted : {b : Bool} → Reflects b (Path (transitions-in moves) (getD heads n 0) (asked r w) (getD heads n 0 + 1)) → Reflects b (Accepts heads moves r w)
+    accepted d = rw e at d

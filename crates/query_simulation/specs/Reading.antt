@@ -1,7 +1,7 @@
 -- What a set of states stands for while a chain is read: some member has a path along what is left exactly where the first state has one
 -- along the whole.
 use mathlib.Core.List.{List, _∷_}
-use Prim.Native.Nat.{ℕ, _+_, _*_, _-_, _<_, _≤_}
+use Prim.Native.Nat.{ℕ, _+_, _-_, _<_, _≤_}
 use lib.ListN.{length, getD, drop}
 use Rattle.roles.specs.Role.{Chain}
 use Rattle.tables.specs.Tables.{epsilon}

@@ -20,7 +20,7 @@ use Rattle.query_simulation.specs.StatesLaws.{states-none, added-none, a
 use Rattle.query_simulation.specs.Transitions.{transition-count, Arrow}
 use Rattle.query_simulation.specs.TransitionIndex.{Indexed, Prepared, Spread}
 use Rattle.query_simulation.specs.TransitionIndexLaws.{indexed-behind, spread-all}
-use Rattle.query_simulation.specs.Reading.{Leads, Reaches, Closed, Closing, Steps, Gathered, Stepped, Read}
+use Rattle.query_simulation.specs.Reading.{Leads, Reaches, Closing, Steps, Gathered, Stepped, Read}
 
 module _ {moves : List ℕ} {room stamp list : ℕ} {s : List ℕ} {count : ℕ} where
   -- closing: nothing is done; one more member is done

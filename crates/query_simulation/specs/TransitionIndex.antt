@@ -2,7 +2,7 @@
 use mathlib.Core.List.{List}
 use mathlib.Core.Path.{_≡_}
 use Prim.Native.Nat.{ℕ, _+_, _*_, _-_, _/_, _<_, _≤_}
-use lib.ListN.{length, getD, drop}
+use lib.ListN.{length, drop}
 use Rattle.tables.specs.Tables.{epsilon}
 use Rattle.linked_lists.specs.LinkedLists.{Linked}
 use Rattle.query_simulation.specs.States.{Member, States, Unused, Added}

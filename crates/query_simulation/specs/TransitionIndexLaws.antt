@@ -1,7 +1,7 @@
 -- Laws of the index: one more transition enters it; a walk along a list meets every transition with its state and label.
 use mathlib.Core.List.{List}
 use mathlib.Core.Logic.{_⊎_, inl, inr}
-use mathlib.Core.Path.{_≡_, refl, sym, ap, _∙_}
+use mathlib.Core.Path.{_≡_, sym, ap, _∙_}
 use Prim.Native.Nat.{ℕ, _+_, _*_, _-_, _<_, _≤_}
 use native.Mathlib.Omega.{arith}
 use borrow.Author.Count.{below-more}
@@ -124,13 +124,13 @@ module _ {room : ℕ} where
         next : ℕ
         next = getD (drop (3 * room) s) (2 * room + (entry - 1)) 0
 
-        next-at : {u : List ℕ} → Behind room s u → getD u (5 * room + entry - 1) 0 ≡ next
+        next-at : getD t (5 * room + entry - 1) 0 ≡ next
         unfolding next
-        next-at {u} b =
+        next-at =
             let e : 5 * room + entry - 1 ≡ 3 * room + (2 * room + (entry - 1)) = omega arith in
-            ap (λ (i : ℕ). getD u i 0) e
-            ∙ sym (getD-drop (3 * room) u (2 * room + (entry - 1)) 0)
-            ∙ ap (λ (l : List ℕ). getD l (2 * room + (entry - 1)) 0) (b .rest)
+            ap (λ (i : ℕ). getD t i 0) e
+            ∙ sym (getD-drop (3 * room) t (2 * room + (entry - 1)) 0)
+            ∙ ap (λ (l : List ℕ). getD l (2 * room + (entry - 1)) 0) (so-far .spread .added .behind .rest)
 
         below : next < entry
         unfolding next
@@ -145,35 +145,32 @@ module _ {room : ℕ} where
         unfolding next
         met = linked.met (slot-at moves) (2 * room) (drop (3 * room) s) (transition-count moves) (indexed .linked) x entry (so-far .low) (so-far .own) some
 
-        module _ {u : List ℕ} {all : ℕ} (one : Met room stamp list moves (entry - 1) a t more u all) where
-          kept : Behind room s u
-          kept = record { same = one .added .behind .same ∙ so-far .spread .added .behind .same; rest = one .added .behind .rest ∙ so-far .spread .added .behind .rest }
+        pub next-less : getD t (5 * room + entry - 1) 0 < entry
+        next-less = rw next-at below
 
-          pub next-less : getD u (5 * room + entry - 1) 0 < entry
-          next-less = rw (next-at kept) below
+        pub walked-more : {u : List ℕ} {all : ℕ} → Met room stamp list moves (entry - 1) a t more u all
+            → Walked room stamp list moves x a (getD t (5 * room + entry - 1) 0) s count u all
+        walked-more {u} {all} one =
+            rw next-at
+            (record {
+              low = omega (arith, below, so-far .low);
+              own = own;
+              spread =
+                  record {
+                    added = added-on (so-far .spread .added) (added-as arrow-here (one .added));
+                    there = λ k h l e f. by-number k l e f (met k h e);
+                  };
+            })
+          where
+            arrow-here : (q : ℕ) → (label-at moves (entry - 1) ≡ a) × (q ≡ to-at moves (entry - 1)) → (p : ℕ) → slot p a ≡ x → Arrow moves p a q
+            arrow-here q d p e =
+                let from : from-at moves (entry - 1) ≡ p = omega (arith, so-far .own some, d .0, e) in
+                rw (d .1, ← from, ← d .0) (arrow-at moves (entry - 1) (omega (arith, so-far .low)))
 
-          pub walked-more : Walked room stamp list moves x a (getD u (5 * room + entry - 1) 0) s count u all
-          walked-more =
-              rw (next-at kept)
-              (record {
-                low = omega (arith, below, so-far .low);
-                own = own;
-                spread =
-                    record {
-                      added = added-on (so-far .spread .added) (added-as arrow-here (one .added));
-                      there = λ k h l e f. by-number k l e f (met k h e);
-                    };
-              })
-            where
-              arrow-here : (q : ℕ) → (label-at moves (entry - 1) ≡ a) × (q ≡ to-at moves (entry - 1)) → (p : ℕ) → slot p a ≡ x → Arrow moves p a q
-              arrow-here q d p e =
-                  let from : from-at moves (entry - 1) ≡ p = omega (arith, so-far .own some, d .0, e) in
-                  rw (d .1, ← from, ← d .0) (arrow-at moves (entry - 1) (omega (arith, so-far .low)))
-
-              by-number : (k : ℕ) → k < transition-count moves → slot-at moves k ≡ x → label-at moves k ≡ a → (k ≡ entry - 1) ⊎ (entry ≤ k)
-                  → Member u list all (to-at moves k)
-              by-number k l e f (inl d) = rw d (one .there (rw d at f))
-              by-number k l e f (inr d) = still-member (one .added) (so-far .spread .there k d l e f)
+            by-number : (k : ℕ) → k < transition-count moves → slot-at moves k ≡ x → label-at moves k ≡ a → (k ≡ entry - 1) ⊎ (entry ≤ k)
+                → Member u list all (to-at moves k)
+            by-number k l e f (inl d) = rw d (one .there (rw d at f))
+            by-number k l e f (inr d) = still-member (one .added) (so-far .spread .there k d l e f)
 
 -- every transition from p with the label a has been met
 pub spread-all : {room stamp list : ℕ} {moves : List ℕ} {x a : ℕ} {s : List ℕ} {count : ℕ} {t : List ℕ} {more : ℕ} → Spread room stamp list moves x a 0 s count t more

@@ -38,14 +38,3 @@ FirstFit room moves n = (k : ℕ) → k < n → Fits room moves k
 -- all are
 abbrev pub Fit : (room : ℕ) (moves : List ℕ) → Type 0
 Fit room moves = FirstFit room moves (transition-count moves)
-
--- small tables: at most 192 transitions, of states below 64, as is the one after `head`
-pub record Small (moves : List ℕ) (head : ℕ) : Type 0 where
-  pub after : head < 63
-  pub few : length moves ≤ 576
-  pub fit : Fit 64 moves
-
--- states of the first n and the one after `head` are at most so large
-pub record Under (moves : List ℕ) (head n most : ℕ) : Type 0 where
-  pub after : head < most
-  pub states : (k : ℕ) → k < n → (from-at moves k ≤ most) × (to-at moves k ≤ most)

@@ -2,14 +2,13 @@
 use mathlib.Core.List.{List, [], _∷_, List·Memᴰ·head, List·Memᴰ·tail, List·Memᴰ·not-nil, List·Memᴰ·cases-cons}
 use mathlib.Core.Logic.{_⊎_, inl, inr}
 use mathlib.Core.Path.{_≡_, refl, sym, ap, _∙_}
-use Prim.Native.Nat.{ℕ, zero, suc, _+_, _*_, _/_, _<_, _≤_}
+use Prim.Native.Nat.{ℕ, zero, suc, _+_, _*_, _<_}
 use native.Mathlib.Omega.{arith}
 use lib.Bits.{bitOr, or-add-and, and-le-l, and-le-r}
-use lib.ListN.{length, getD}
-use Rattle.base.specs.Truth.{lt-or-le}
+use lib.ListN.{getD}
 use Rattle.tables.specs.Tables.{Transition}
 use Rattle.query_causes.specs.Query.{transitions-in}
-use Rattle.query_simulation.specs.Transitions.{from-at, label-at, to-at, transition-count, arrow, Arrow, Fit, Small, Under}
+use Rattle.query_simulation.specs.Transitions.{from-at, label-at, to-at, transition-count, arrow, Arrow}
 
 -- what numbers spell at a place is what they spell there after three more
 shift : (p a q : ℕ) (ms : List ℕ) (k i : ℕ) → getD (p ∷ a ∷ q ∷ ms) (3 * suc k + i) 0 ≡ getD ms (3 * k + i) 0
@@ -62,40 +61,6 @@ numbered (x ∷ y ∷ z ∷ ms) p a q m = by-place (λ (n : Arrow ms p a q). num
           to-is = shift x y z ms (r .number) 2 ∙ r .to-is;
         }
 
--- states gathered in one number by their bits, three places a turn
-module _ (moves : List ℕ) (head : ℕ) where
-  pub under-none : Under moves head 0 (head + 1)
-  under-none = record { after = omega arith; states = λ k l. absurd (omega arith) }
-
-  module _ {i most : ℕ} (so-far : Under moves head (i / 3) most) (third : 3 * (i / 3) ≡ i) where
-    pub under-more : Under moves head ((i + 3) / 3) (bitOr (bitOr most (getD moves i 0)) (getD moves (i + 2) 0))
-    under-more =
-        record { after = omega (arith, so-far .after, grows); states = λ k l. by-number k (lt-or-le k (i / 3)) l }
-      where
-        all-bits : ℕ
-        all-bits = bitOr (bitOr most (getD moves i 0)) (getD moves (i + 2) 0)
-
-        grows : (most ≤ all-bits) × (getD moves i 0 ≤ all-bits) × (getD moves (i + 2) 0 ≤ all-bits)
-        grows =
-            let a = or-add-and most (getD moves i 0) in
-            let b = or-add-and (bitOr most (getD moves i 0)) (getD moves (i + 2) 0) in
-            let c = and-le-l most (getD moves i 0) in
-            let d = and-le-r most (getD moves i 0) in
-            let e = and-le-l (bitOr most (getD moves i 0)) (getD moves (i + 2) 0) in
-            let f = and-le-r (bitOr most (getD moves i 0)) (getD moves (i + 2) 0) in
-            (omega arith, omega arith, omega arith)
-
-        by-number : (k : ℕ) → (k < i / 3) ⊎ (i / 3 ≤ k) → k < (i + 3) / 3 → (from-at moves k ≤ all-bits) × (to-at moves k ≤ all-bits)
-        by-number k (inl h) l = (omega (arith, so-far .states k h .0, grows .0), omega (arith, so-far .states k h .1, grows .0))
-        by-number k (inr h) l = let e : 3 * k ≡ i = omega arith in rw e (grows .1, grows .2)
-
-  pub under-small : {i most : ℕ} → Fit 2048 moves → length moves ≤ 576 → Under moves head (i / 3) most → 3 * (i / 3) ≡ i → length moves ≤ i + 2 → most < 64
-      → Small moves head
-  under-small fit few all third l h =
-      record {
-        after = omega (arith, all .after);
-        few = few;
-        fit = λ k m.
-            let s = all .states k (omega arith) in
-            record { from-fits = omega (arith, s .0); label-fits = fit k m .label-fits; to-fits = omega (arith, s .1) };
-      }
+-- numbers are at most the one that has the bits of both
+pub below-both : (a b n : ℕ) → bitOr a b < n → (a < n) × (b < n)
+below-both a b n h = (omega (arith, or-add-and a b, and-le-r a b), omega (arith, or-add-and a b, and-le-l a b))

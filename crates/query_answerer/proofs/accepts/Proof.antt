@@ -1,26 +1,28 @@
--- `accepts` meets its contract: fresh arrays are unused sets and an empty index, and small tables are those whose states are all below 64.
+-- `accepts` meets its contract: in a small array, small tables are those whose states are all below 64.
 use native.Mathlib.Omega.{arith}
 use borrow.Author.Needs.{needs}
+use borrow.Author.Tests.{leb-true}
+use lib.ListN.{length}
 use Rattle.query_simulation.specs.TransitionIndexLaws.{prepared-zeros}
 use Rattle.query_answerer.proofs.accepts.Statement.{statement}
 use Rattle.query_answerer.proofs.accepts.Tie as tie
 
-decide-requires : tie.Need-decide-requires
-decide-requires c κs = let small = c .before .before .is-small .ensures (c .before .if1 .taken) in (small .fit, (prepared-zeros _ 512 (omega arith) (omega (arith, small .few)) (omega arith), (c .before .before .before .before .before .pre .letters, omega (arith, small .after))))
+fill-within-requires : tie.Need-fill-within-requires
+fill-within-requires c κs =
+    let entry = c .before .before .before .before .before in
+    (entry .pre .fit, prepared-zeros _ 512 (omega arith) (omega (arith, leb-true (length (entry .args .moves .now)) 576 (c .before .if2 .taken))) (omega arith))
 
-decide-requires-2 : tie.Need-decide-requires-2
-decide-requires-2 c κs =
-    let at-pre = c .before .before .before .before .before .pre in
-    (at-pre .fit, (prepared-zeros _ 15360 (omega arith) (omega (arith, at-pre .few)) (omega arith), (at-pre .letters, omega (arith, at-pre .low))))
+run-requires : tie.Need-run-requires
+run-requires c κs = record { prepared = c .before .before .before .fill-within .ensures (c .before .if3 .taken); letters = c .before .before .before .before .before .before .before .before .before .pre .letters; inside = omega (arith, c .before .before .before .before .before .before .if1 .taken); early = omega arith }
 
 pub accepts-spec : {M : Type 1} → statement M
 accepts-spec =
     tie.close
     (tie.spec
+    (λ c. search needs)
+    fill-within-requires
+    (λ c. search needs)
+    run-requires
+    (λ c. c .before .run .ensures .0)
     (λ c κs. search needs)
-    (λ c. search needs)
-    decide-requires
-    (λ c. search needs)
-    (λ c. search needs)
-    decide-requires-2
     (λ c. search needs))

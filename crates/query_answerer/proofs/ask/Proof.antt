@@ -5,24 +5,24 @@ use borrow.Author.Needs.{needs}
 use borrow.Author.Tests.{not-true, not-false}
 use Rattle.base.specs.Decision.Decision.{refuses, yes as answered-yes, no as answered-no}
 use Rattle.query_checker.specs.QueryVerdict.{says as found}
-use Rattle.query_simulation.specs.QueryLaws.{named-role, askable}
+use Rattle.query_simulation.specs.QueryLaws.{named-head, askable, accepted}
 use Rattle.query_answerer.proofs.ask.Statement.{statement}
 use Rattle.query_answerer.proofs.ask.Tie as tie
 
 shared-slice-read-head : tie.Need-shared-slice-read-head
-shared-slice-read-head c = rw (c .before .name .ensures) (named-role _ _ _ _ (sym (c .before .before .before .before .check .ensures) ∙ ap found (c .before .before .enum-told .given .1)))
+shared-slice-read-head c = named-head _ _ _ _ (sym (c .before .before .before .before .check .ensures) ∙ ap found (c .before .before .enum-told .given .1)) (c .before .name .ensures)
 
 accepts-requires : tie.Need-accepts-requires
-accepts-requires c κs = rw (c .before .name .ensures) (askable _ _ _ _ (sym (c .before .before .before .before .check .ensures) ∙ ap found (c .before .before .enum-told .given .1)))
+accepts-requires c κs = askable _ _ _ _ (sym (c .before .before .before .before .check .ensures) ∙ ap found (c .before .before .enum-told .given .1)) (c .before .name .ensures)
 
 returns : tie.Need-returns
-returns c = answered-no (sym (c .before .before .before .before .before .before .check .ensures) ∙ ap found (c .before .before .before .before .enum-told .given .1)) ((rw (c .before .before .before .name .ensures) at (c .before .accepts .ensures)) .fails (not-true _ (c .if1 .taken)))
+returns c = let passed = sym (c .before .before .before .before .before .before .check .ensures) ∙ ap found (c .before .before .before .before .enum-told .given .1) in answered-no passed (accepted _ _ _ _ passed (c .before .before .before .name .ensures) (c .before .accepts .ensures) .fails (not-true _ (c .if1 .taken)))
 
 returns-2 : tie.Need-returns-2
 returns-2 c = refuses _ 0 (sym (c .before .before .before .check .ensures) ∙ ap found (c .before .question .given .1))
 
 returns-3 : tie.Need-returns-3
-returns-3 c = answered-yes (sym (c .before .before .before .before .before .before .check .ensures) ∙ ap found (c .before .before .before .before .enum-told .given .1)) ((rw (c .before .before .before .name .ensures) at (c .before .accepts .ensures)) .holds (not-false _ (c .if1 .left)))
+returns-3 c = let passed = sym (c .before .before .before .before .before .before .check .ensures) ∙ ap found (c .before .before .before .before .enum-told .given .1) in answered-yes passed (accepted _ _ _ _ passed (c .before .before .before .name .ensures) (c .before .accepts .ensures) .holds (not-false _ (c .if1 .left)))
 
 pub ask-spec : {M : Type 1} → statement M
 ask-spec =

@@ -28,35 +28,28 @@ loop-holds c =
     let at-pre = c .before .before .before .pre in
     walked-start (at-pre .0 .indexed) (at-pre .1) (at-pre .0 .good)
 
+add-next : tie.Need-add-next Inv-loop μ-loop
+add-next c = omega (arith, c .before .loop .inv .low, c .before .before .before .before .before .pre .0 .indexed)
+
+mul-next-2 : tie.Need-mul-next-2 Inv-loop μ-loop
+mul-next-2 c = omega (arith, c .before .loop .inv .low, c .before .before .before .before .before .pre .0 .indexed)
+
+slice-read-next : tie.Need-slice-read-next Inv-loop μ-loop
+slice-read-next c = omega (arith, c .before .before .loop .inv .low, c .before .loop-test .taken, c .before .before .loop .inv .spread .added .behind .same, c .before .before .before .before .before .before .pre .0 .indexed .space)
+
+cast-next : tie.Need-cast-next Inv-loop μ-loop
+cast-next c = omega (arith, c .slice-known3 .given (5 * c .before .before .before .before .before .before .args .room + c .before .before .loop .at - 1))
+
 meet-requires : tie.Need-meet-requires Inv-loop μ-loop
-meet-requires c κs = (record { good = c .before .before .loop .inv .spread .added .good; indexed = indexed-behind (c .before .before .loop .inv .spread .added .behind) (c .before .before .before .before .before .before .pre .0 .indexed) }, omega (arith, c .before .before .loop .inv .low, c .before .loop-test .taken))
-
-mul-at-3 : tie.Need-mul-at-3 Inv-loop μ-loop
-mul-at-3 c = omega (arith, c .before .before .before .before .before .before .before .before .before .pre .0 .good .members .low)
-
-add-at-2 : tie.Need-add-at-2 Inv-loop μ-loop
-add-at-2 c =
-    let at-pre = c .before .before .before .before .before .before .before .before .before .pre in
-    omega (arith, c .before .before .before .before .before .loop .inv .low, at-pre .0 .indexed .space, at-pre .0 .indexed .short)
-
-mul-at-4 : tie.Need-mul-at-4 Inv-loop μ-loop
-mul-at-4 c =
-    let at-pre = c .before .before .before .before .before .before .before .before .before .pre in
-    omega (arith, c .before .before .before .before .before .loop .inv .low, at-pre .0 .indexed .space, at-pre .0 .indexed .short)
-
-slice-read-at-2 : tie.Need-slice-read-at-2 Inv-loop μ-loop
-slice-read-at-2 c =
-    let at-loop = c .before .before .before .before .before .before .loop in
-    omega (arith, at-loop .inv .low, c .before .before .before .before .before .loop-test .taken, c .before .before .before .meet .ensures .added .behind .same, at-loop .inv .spread .added .behind .same, c .before .before .before .before .before .before .before .before .before .before .pre .0 .indexed .space)
-
-cast-at-2 : tie.Need-cast-at-2 Inv-loop μ-loop
-cast-at-2 c = omega (arith, c .slice-known4 .given (5 * c .before .before .before .before .before .before .before .before .before .before .args .room + c .before .before .before .before .before .before .loop .at - 1))
+meet-requires c κs =
+    let at-loop = c .before .before .before .loop in
+    (record { good = at-loop .inv .spread .added .good; indexed = indexed-behind (at-loop .inv .spread .added .behind) (c .before .before .before .before .before .before .before .pre .0 .indexed) }, omega (arith, at-loop .inv .low, c .before .before .loop-test .taken))
 
 loop-less : tie.Need-loop-less Inv-loop μ-loop
-loop-less c = next-less (c .before .before .before .before .before .before .before .before .before .before .pre .0 .indexed) (c .before .before .before .before .before .before .loop .inv) (c .before .before .before .before .before .loop-test .taken) (c .before .before .before .meet .ensures)
+loop-less c = next-less (c .before .before .before .before .before .before .before .before .before .before .pre .0 .indexed) (c .before .before .before .before .before .before .loop .inv) (c .before .before .before .before .before .loop-test .taken)
 
 loop-again : tie.Need-loop-again Inv-loop μ-loop
-loop-again c = walked-more (c .before .before .before .before .before .before .before .before .before .before .pre .0 .indexed) (c .before .before .before .before .before .before .loop .inv) (c .before .before .before .before .before .loop-test .taken) (c .before .before .before .meet .ensures)
+loop-again c = walked-more (c .before .before .before .before .before .before .before .before .before .before .pre .0 .indexed) (c .before .before .before .before .before .before .loop .inv) (c .before .before .before .before .before .loop-test .taken) (c .before .before .meet .ensures)
 
 returns : tie.Need-returns Inv-loop μ-loop
 returns c = let e : c .before .loop .at ≡ 0 = omega (arith, c .loop-test .left) in rw e at (c .before .loop .inv .spread)
@@ -73,14 +66,14 @@ spread-spec =
     slice-read-at
     cast-at
     loop-holds
-    (λ c. c .loop-test .taken)
+    (λ c. omega (arith, c .before .before .before .before .before .pre .0 .good .members .low))
+    add-next
+    (λ c. omega (arith, c .loop-test .taken))
+    mul-next-2
+    slice-read-next
+    cast-next
+    (λ c. c .before .loop-test .taken)
     meet-requires
-    mul-at-3
-    add-at-2
-    (λ c. omega (arith, c .before .before .before .before .loop-test .taken))
-    mul-at-4
-    slice-read-at-2
-    cast-at-2
     loop-less
     loop-again
     (λ c. c .before .loop .inv .spread .added .behind .same)
