@@ -21,7 +21,7 @@ pub(crate) fn fill_index(moves: &[u16], room: usize, space: &mut [u16])
     }
 }
 
-// The same where every state is below the room; whether each is. The bits of both states of a transition are tested at once.
+// The same where every state is below the room, a power of 2; whether each is. The bits of both states of a transition are tested at once.
 pub(crate) fn fill_within(moves: &[u16], room: u16, space: &mut [u16]) -> bool
     requires { ⌜ Fit 2048 (now moves) ⌝ }
     requires { ⌜ Prepared room 1 (now moves) 0 (now space) ⌝ }
