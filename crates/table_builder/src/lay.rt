@@ -88,10 +88,10 @@ fn fragment(index: &[u16], role: u8, place: Place, memo: &mut [u16], moves: &mut
     all
 }
 
-// The rows of rule k and of the rules of the same name after it, in book order, for the fragment of a role at an initial state.
+// The rows of a rule and of the rules of the same name after it, in book order, for the fragment of a role at an initial state.
 fn rows(
     index: &[u16],
-    k: usize,
+    first: usize,
     role: u8,
     initial: usize,
     place: Place,
@@ -99,15 +99,16 @@ fn rows(
     moves: &mut [u16],
 ) -> Place
     requires { ⌜ Ready (now index) role place (now memo) (now moves) ⌝ }
-    requires { ⌜ Here (now index) role k × (initial ≤ 2046) ⌝ }
-    ensures { λ r. ⌜ Rows-laid k initial (now (index .entry)) role place (now (moves .entry)) r (now (memo .exit)) (now (moves .exit)) ⌝ }
+    requires { ⌜ Here (now index) role first × (initial ≤ 2046) ⌝ }
+    ensures { λ r. ⌜ Rows-laid first initial (now (index .entry)) role place (now (moves .entry)) r (now (memo .exit)) (now (moves .exit)) ⌝ }
 {
-    if 256 <= k {
-        return place;
+    let mut at = place;
+    let mut k = first;
+    while k < 256 {
+        at = row(index, k, role, initial, at, memo, moves);
+        k = number(index, 14 * k + 5);
     }
-    let at = row(index, k, role, initial, place, memo, moves);
-    let next = number(index, 14 * k + 5);
-    rows(index, next, role, initial, at, memo, moves)
+    at
 }
 
 // The row of rule k, if it has one: into each inner fragment's initial state, and out of the last one's final state.

@@ -13,7 +13,7 @@ use Rattle.rule_index.specs.RuleIndex.{level-in}
 use Rattle.rule_index.specs.RuleIndexLaws.{at-start, later}
 use Rattle.table_builder.specs.FragmentLaws.{over-laid, again-held, again-laid, ready-lettered, ready-laid, ready-added, fragment-after, fragment-laid}
 use Rattle.table_builder.specs.RowLaws.{Rowing, row-none, rowing-start, rowing-next, rowing-end}
-use Rattle.table_builder.specs.RulesLaws.{rows-none, here-next, rows-more}
+use Rattle.table_builder.specs.RulesLaws.{Walking, walking-start, walking-later, walking-next, walking-end}
 use Rattle.table_builder.proofs.lay.fragment.Reads as fragment
 use Rattle.table_builder.proofs.lay.fragment.Kinds as fragment-kinds
 use Rattle.table_builder.proofs.lay.+fragment+row+rows.Lts-fragment as fragment-lts
@@ -37,13 +37,13 @@ use Rattle.table_builder.proofs.lay.+fragment+row+rows.{statement}
 use Rattle.table_builder.proofs.lay.+fragment+row+rows.Tie.{close}
 
 abbrev μ-fragment : Measures 3 fragment-kinds.ps ℕ
-μ-fragment κs a = 260 * level-in (now (a .0)) (name (a .1 .0)) + 258
+μ-fragment κs a = 3 * level-in (now (a .0)) (name (a .1 .0)) + 2
 
 abbrev μ-row : Measures 3 row-kinds.ps ℕ
-μ-row κs a = 260 * level-in (now (a .0)) (name (a .1 .1 .0))
+μ-row κs a = 3 * level-in (now (a .0)) (name (a .1 .1 .0))
 
 abbrev μ-rows : Measures 3 rows-kinds.ps ℕ
-μ-rows κs a = 260 * level-in (now (a .0)) (name (a .1 .1 .0)) + (257 - a .1 .0)
+μ-rows κs a = 3 * level-in (now (a .0)) (name (a .1 .1 .0)) + 1
 
 abbrev fragment-at : ℕ → In 3 fragment-kinds.ps
 fragment-at t = and 3 fragment-kinds.ps (is 3 fragment-kinds.ps μ-fragment t) fragment.Pre
@@ -101,8 +101,6 @@ rows-claims t = (
   row.Post,
   number-reads.Asked,
   number-reads.Learnt,
-  rows-below t,
-  rows.Post,
 )
 
 abbrev Inv-loop : row-lts.InvT-loop
@@ -213,24 +211,35 @@ row-same-length-2 t c = c .before .before .transition2 .kept .1 .1 .1 .1 .1 .0 �
 row-returns-2 : (t : ℕ) → row-lts.Need-returns-2 (row-claims t) (row-at t) row.Post Inv-loop μ-loop
 row-returns-2 t c = rowing-end (c .before .before .before .before .before .before .before .before .before .row-of .ensures) (c .before .before .before .before .before .before .loop .inv) (c .before .before .transition2 .kept .1 .1 .1 .1 .1 .0) (c .before .before .transition2 .ensures) (c .before .before .before .before .if2 .left) (c .before .before .before .before .before .before .before .if1 .left)
 
-rows-row-requires : (t : ℕ) → rows-lts.Need-row-requires (rows-claims t) (rows-at t) rows.Post
+abbrev Inv-walk : rows-lts.InvT-loop
+Inv-walk index first role initial memo₀ moves₀ at₀ k₀ memo moves at k = Walking index role initial first at₀ moves₀ k at memo moves
+
+abbrev μ-walk : rows-lts.MeasureT-loop
+μ-walk index first role initial memo₀ moves₀ at₀ k₀ memo moves at k = 256 - k
+
+rows-row-requires : (t : ℕ) → rows-lts.Need-row-requires (rows-claims t) (rows-at t) rows.Post Inv-walk μ-walk
 rows-row-requires t c κs =
-    let pre = c .before .before .before .before .before .before .pre in
-    (omega (arith, pre .0, c .before .before .if1 .left), (pre .1 .0, (pre .1 .1 .0, pre .1 .1 .1, c .before .before .if1 .left)))
+    let turn = c .before .before .before in
+    let pre = turn .before .before .before .before .pre in
+    (omega (arith, pre .0), (turn .loop .inv .ready, (turn .loop .inv .here, pre .1 .1 .1, c .before .before .loop-test .taken)))
 
-rows-number-requires : (t : ℕ) → rows-lts.Need-number-requires (rows-claims t) (rows-at t) rows.Post
-rows-number-requires t c κs = omega (arith, c .before .before .before .before .before .before .before .if1 .left, c .before .before .before .before .before .before .before .before .before .before .before .pre .1 .0 .index .size)
+rows-number-requires : (t : ℕ) → rows-lts.Need-number-requires (rows-claims t) (rows-at t) rows.Post Inv-walk μ-walk
+rows-number-requires t c κs = omega (arith, c .before .before .before .before .before .before .before .loop-test .taken, c .before .before .before .before .before .before .before .before .loop .inv .ready .index .size)
 
-rows-rows-requires : (t : ℕ) → rows-lts.Need-rows-requires (rows-claims t) (rows-at t) rows.Post
-rows-rows-requires t c κs =
-    let entry = c .before .before .before .before .before .before .before .before .before .before .before .before .before .before in
-    let pre = entry .pre in
-    let if1 = c .before .before .before .before .before .before .before .before .before .before .if1 in
-    let args = entry .args in
-    (omega (arith, pre .0, if1 .left, c .before .before .number .ensures .0, later (pre .1 .0 .index) (args .role) (args .k) (if1 .left) (pre .1 .1 .0 (pre .1 .0 .rules) (pre .1 .0 .index))), (ready-laid (pre .1 .0) (c .before .before .before .before .before .before .before .row .ensures) _ (pre .1 .0 .role), (here-next _ _ (args .initial) (pre .1 .1 .0) (if1 .left) _ (c .before .before .number .ensures .0), pre .1 .1 .1)))
+rows-loop-less : (t : ℕ) → rows-lts.Need-loop-less (rows-claims t) (rows-at t) rows.Post Inv-walk μ-walk
+rows-loop-less t c =
+    let at-before = c .before .before .before .before .before .before .before .before in
+    let turn = at-before .before in
+    let more = at-before .loop-test .taken in
+    let further = walking-later (turn .loop .inv) more (c .number .ensures .0) in
+    omega (arith, more, further)
 
-rows-returns-2 : (t : ℕ) → rows-lts.Need-returns-2 (rows-claims t) (rows-at t) rows.Post
-rows-returns-2 t c = rows-more _ _ _ (c .before .before .before .before .before .before .before .before .before .before .before .before .before .before .before .before .before .before .before .pre .1 .1 .0) (c .before .before .before .before .before .before .before .before .before .before .before .before .before .before .before .if1 .left) _ (c .before .before .before .before .before .before .before .number .ensures .0) (c .before .before .before .before .before .before .before .before .before .before .before .before .row .ensures) (c .before .before .before .before .rows .ensures)
+rows-loop-again : (t : ℕ) → rows-lts.Need-loop-again (rows-claims t) (rows-at t) rows.Post Inv-walk μ-walk
+rows-loop-again t c =
+    let at-before = c .before .before .before .before .before .before .before .before in
+    let turn = at-before .before in
+    let row = c .before .before .before .before .before .row in
+    walking-next (turn .loop .inv) (at-before .loop-test .taken) (c .number .ensures .0) (row .ensures) (row .kept .1 .1 .1 .1 .1 .1 .0)
 
 pub +fragment+row+rows-spec : {M : Type 1} → statement M
 +fragment+row+rows-spec =
@@ -267,13 +276,14 @@ pub +fragment+row+rows-spec : {M : Type 1} → statement M
     (row-same-length t)
     (row-same-length-2 t)
     (row-returns-2 t))
-    λ t. rows-lts.spec (rows-claims t) (rows-at t) rows.Post
-    (λ c. rows-none _ _ _ (c .before .before .before .before .pre .1 .0) (c .if1 .taken))
+    λ t. rows-lts.spec (rows-claims t) (rows-at t) rows.Post Inv-walk μ-walk
+    (λ c. let pre = c .before .before .before .pre in walking-start (pre .1 .0) (pre .1 .1 .0))
     (rows-row-requires t)
-    (λ c. omega (arith, c .before .before .before .before .before .before .before .if1 .left))
-    (λ c. omega (arith, c .before .before .before .before .before .before .before .if1 .left))
+    (λ c. omega (arith, c .before .before .before .before .before .before .before .loop-test .taken))
+    (λ c. omega (arith, c .before .before .before .before .before .before .before .loop-test .taken))
     (rows-number-requires t)
-    (rows-rows-requires t)
-    (λ c. search needs)
-    (λ c. search needs)
-    (rows-returns-2 t)
+    (rows-loop-less t)
+    (rows-loop-again t)
+    (λ c. c .before .loop .inv .ready .memo .size ∙ sym (c .before .before .before .before .before .pre .1 .0 .memo .size))
+    (λ c. c .before .loop .inv .same)
+    (λ c. walking-end (c .before .loop .inv) (c .loop-test .left))
