@@ -13,7 +13,7 @@
  * - Every pointer is valid and aligned for its type, also where its length is 0: not null.
  * - A length counts elements, not bytes.
  * - Memory that a call writes overlaps nothing else that the same call is lent.
- * - Room on the stack: a build or a question takes up to 40 KB of it, a matter only for very small
+ * - Room on the stack: a build or a question takes up to 50 KB of it, a matter only for very small
  *   stacks.
  */
 #ifndef RABBITSTEEL_H
