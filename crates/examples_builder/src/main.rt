@@ -1,11 +1,11 @@
 // Tries the builder on the hall book of document 01, on books without an order and on every edge of causes 9 to 11. Each line names the book
 // and says what the builder answers; `stdout` holds what it must write.
-mod print;
+mod outcomes;
 mod tower;
 
-use print::built;
-use print::line;
-use print::numbers;
+use outcomes::built;
+use outcomes::line;
+use outcomes::numbers;
 use text_parts::byte;
 use text_parts::find;
 use text_parts::part;

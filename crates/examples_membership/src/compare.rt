@@ -1,6 +1,6 @@
 // Puts a question to the answerer and to the second method.
 use crate::chain::spelled;
-use crate::sample::Question;
+use crate::questions::Question;
 use crate::second::derives;
 use query_answerer::Answer;
 use text_parts::part;

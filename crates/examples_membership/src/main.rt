@@ -1,20 +1,20 @@
 // Tries the answerer on document 01's questions, on tables that no book gave and on every edge of causes 12 to 14; then compares it with a
 // second method, which decides derivation from the rules alone, and shows differences that it must find. `stdin` holds what is tried, a line each;
 // `stdout` holds what the program must write.
-mod build;
 mod chain;
 mod compare;
 mod counts;
 mod draw;
-mod line;
+mod lent_tables;
 mod make;
+mod questions;
 mod rules;
-mod sample;
+mod script;
+mod script_numbers;
 mod second;
-mod text;
 mod trial;
 
-use line::try_line;
+use script::try_line;
 use text_parts::find;
 use text_parts::part;
 

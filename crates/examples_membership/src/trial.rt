@@ -1,6 +1,4 @@
 // Tries books: their questions are put to both methods and counted.
-use crate::build::Tables;
-use crate::build::build;
 use crate::compare::compare;
 use crate::counts::ACCEPTED;
 use crate::counts::MADE;
@@ -8,12 +6,14 @@ use crate::counts::MARKED;
 use crate::counts::REFUSED;
 use crate::counts::add;
 use crate::counts::tell;
+use crate::lent_tables::Tables;
+use crate::lent_tables::build;
 use crate::make::make_book;
+use crate::questions::Question;
+use crate::questions::draw_question;
+use crate::questions::nth_question;
 use crate::rules::rules_of;
-use crate::sample::Question;
-use crate::sample::draw_question;
-use crate::sample::nth_question;
-use crate::text::numbers_of;
+use crate::script_numbers::numbers_of;
 use text_parts::byte;
 use text_parts::part;
 

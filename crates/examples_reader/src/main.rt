@@ -1,16 +1,16 @@
 // Tries the book reader on the hall book of document 01 and on every edge of causes 1 to 7. Each line names the bytes and
 // says what the reader answers; `stdout` holds what it must write.
-mod print;
-mod sample;
+mod books;
+mod verdicts;
 
-use print::label;
-use print::left;
-use print::line;
-use print::verdict;
-use sample::edited;
-use sample::front;
-use sample::grid;
-use sample::hall;
+use books::edited;
+use books::front;
+use books::grid;
+use books::hall;
+use verdicts::label;
+use verdicts::left;
+use verdicts::line;
+use verdicts::verdict;
 
 fn main() {
     line(b"The hall book");

@@ -2,8 +2,8 @@
 use mathlib.Core.Path.{sym}
 use borrow.Author.Needs.{needs}
 use lib.Seq.{length-take-le}
-use Rattle.examples_builder.proofs.print.built.Statement.{statement}
-use Rattle.examples_builder.proofs.print.built.Tie as tie
+use Rattle.examples_builder.proofs.outcomes.built.Statement.{statement}
+use Rattle.examples_builder.proofs.outcomes.built.Tie as tie
 
 pub built-spec : {M : Type 1} → statement M
 built-spec =

@@ -1,21 +1,27 @@
--- `read_list` is safe and ends.
+-- `numbers` is safe and ends.
 use Prim.Native.Nat.{_-_}
 use borrow.Author.Needs.{needs}
-use Rattle.examples_membership.proofs.text.read_list.Statement.{statement}
-use Rattle.examples_membership.proofs.text.read_list.Tie as tie
+use Rattle.examples_builder.proofs.outcomes.numbers.Statement.{statement}
+use Rattle.examples_builder.proofs.outcomes.numbers.Tie as tie
 
 abbrev Inv-loop : tie.InvT-loop
-Inv-loop s at last₀ size numbers₀ bytes₀ i₀ last numbers bytes i = Unit
+Inv-loop text table n i₀ t6 t7 i = Unit
 
 abbrev μ-loop : tie.MeasureT-loop
-μ-loop s at last₀ size numbers₀ bytes₀ i₀ last numbers bytes i = size - i
+μ-loop text table n i₀ t6 t7 i = n - i
 
-pub read-list-spec : {M : Type 1} → statement M
-read-list-spec =
+pub numbers-spec : {M : Type 1} → statement M
+numbers-spec =
     tie.close
     (tie.spec
     Inv-loop
     μ-loop
+    (λ c. search needs)
+    (λ c κs. search needs)
+    (λ c. search needs)
+    (λ c κs. search needs)
+    (λ c. search needs)
+    (λ c. search needs)
     (λ c κs. search needs)
     (λ c. search needs)
     (λ c κs. search needs)
@@ -23,8 +29,5 @@ read-list-spec =
     (λ c. search needs)
     (λ c. search needs)
     (λ c. search needs)
-    (λ c. search needs)
-    (λ c. search needs)
-    (λ c. search needs)
-    (λ c. search needs)
+    (λ c κs. search needs)
     (λ c. search needs))

@@ -2,8 +2,8 @@
 use Prim.Native.Nat.{_-_}
 use lib.ListN.{length}
 use borrow.Author.Needs.{needs}
-use Rattle.examples_membership.proofs.text.read_number.Statement.{statement}
-use Rattle.examples_membership.proofs.text.read_number.Tie as tie
+use Rattle.examples_membership.proofs.script_numbers.read_number.Statement.{statement}
+use Rattle.examples_membership.proofs.script_numbers.read_number.Tie as tie
 
 abbrev Inv-loop : tie.InvT-loop
 Inv-loop s at value₀ i₀ value i = Unit

@@ -3,8 +3,8 @@ use Prim.Native.Nat.{_-_}
 use native.Mathlib.Omega.{arith}
 use borrow.Author.Needs.{needs}
 use lib.ListN.{length}
-use Rattle.examples_reader.proofs.print.left.Statement.{statement}
-use Rattle.examples_reader.proofs.print.left.Tie as tie
+use Rattle.examples_reader.proofs.verdicts.left.Statement.{statement}
+use Rattle.examples_reader.proofs.verdicts.left.Tie as tie
 
 abbrev Inv-loop : tie.InvT-loop
 Inv-loop text rule bytes part i₀ t8 t9 i = Unit

@@ -3,8 +3,8 @@ use Prim.Native.Nat.{_-_}
 use native.Mathlib.Nat.{div-le-self}
 use native.Mathlib.Omega.{arith}
 use borrow.Author.Needs.{needs}
-use Rattle.examples_membership.proofs.sample.nth_question.Statement.{statement}
-use Rattle.examples_membership.proofs.sample.nth_question.Tie as tie
+use Rattle.examples_membership.proofs.questions.nth_question.Statement.{statement}
+use Rattle.examples_membership.proofs.questions.nth_question.Tie as tie
 
 abbrev Inv-loop : tie.InvT-loop
 Inv-loop i seed roles chain₀ rest₀ chain rest = Unit

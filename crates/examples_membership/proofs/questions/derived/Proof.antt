@@ -1,8 +1,8 @@
 -- `derived` is safe and ends.
 use Prim.Native.Nat.{_-_}
 use borrow.Author.Needs.{needs}
-use Rattle.examples_membership.proofs.sample.derived.Statement.{statement}
-use Rattle.examples_membership.proofs.sample.derived.Tie as tie
+use Rattle.examples_membership.proofs.questions.derived.Statement.{statement}
+use Rattle.examples_membership.proofs.questions.derived.Tie as tie
 
 abbrev Inv-loop : tie.InvT-loop
 Inv-loop seed rules role turns next₀ chain₀ i₀ next chain i = Unit

@@ -1,10 +1,10 @@
 // What a line of the script asks for. It begins with a letter; then come a text, a bar and lists of numbers, each with its length first.
-use crate::build::build;
 use crate::compare::said;
 use crate::counts::tell;
-use crate::text::numbers_of;
-use crate::text::read_list;
-use crate::text::read_number;
+use crate::lent_tables::build;
+use crate::script_numbers::numbers_of;
+use crate::script_numbers::read_list;
+use crate::script_numbers::read_number;
 use crate::trial::try_book;
 use crate::trial::try_made;
 use text_parts::byte;

@@ -3,8 +3,8 @@ use mathlib.Core.Path.{_≡_}
 use Prim.Native.Nat.{_-_}
 use borrow.Author.Needs.{needs}
 use lib.ListN.{length}
-use Rattle.examples_reader.proofs.sample.grid.Statement.{statement}
-use Rattle.examples_reader.proofs.sample.grid.Tie as tie
+use Rattle.examples_reader.proofs.books.grid.Statement.{statement}
+use Rattle.examples_reader.proofs.books.grid.Tie as tie
 
 abbrev Inv-loop : tie.InvT-loop
 Inv-loop s₀ names rules size i₀ at₀ s i at = length s ≡ length s₀
