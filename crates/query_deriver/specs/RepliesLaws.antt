@@ -22,8 +22,8 @@ use Rattle.refusals.specs.QueryRefusals.{query-cause}
 use Rattle.query_checker.specs.QueryVerdict.{says as found-says}
 use Rattle.query_answerer.specs.declared.Answer.{Answer}
 use Rattle.query_answerer.specs.Answer.{says as answer-says}
-use Rattle.table_builder.specs.declared.Counts.{Counts}
-use Rattle.table_builder.specs.declared.Outcome.the-variants.{Built, Refused}
+use Rattle.table_limits.specs.declared.Counts.{Counts}
+use Rattle.table_limits.specs.declared.Outcome.the-variants.{Built, Refused}
 use Rattle.table_builder.specs.Builds.{Builds}
 use Rattle.table_builder.specs.WrittenLaws.{own, written-heads, written-moves, refused-by}
 use Rattle.query_deriver.specs.declared.Reply.{Reply}

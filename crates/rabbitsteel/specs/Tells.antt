@@ -12,7 +12,7 @@ use Rattle.book_causes.specs.Accepted.{states-of, count-of, heads-of, moves-of,
 use Rattle.query_causes.specs.Query.{Answered}
 use Rattle.query_correctness.specs.Reply.{Replied, posed}
 use Rattle.book_header.specs.declared.Header.{Header}
-use Rattle.table_builder.specs.declared.Counts.{Counts}
+use Rattle.table_limits.specs.declared.Counts.{Counts}
 
 -- two numbers told
 pub record Pair : Type 0 where

@@ -11,7 +11,7 @@ use Rattle.book_causes.specs.Accepted.{built}
 use Rattle.query_causes.specs.Query.{Answered}
 use Rattle.query_answerer.specs.declared.Answer.{Answer}
 use Rattle.query_answerer.specs.Answer as answers
-use Rattle.table_builder.specs.declared.Outcome.{Outcome}
+use Rattle.table_limits.specs.declared.Outcome.{Outcome}
 use Rattle.table_builder.specs.Builds as builder
 use Rattle.query_deriver.specs.declared.Reply.{Reply}
 use Rattle.query_deriver.specs.Replies as replies

@@ -16,9 +16,8 @@ use Rattle.order.specs.Leveled.{Fits}
 use Rattle.order.specs.LeveledLaws.{inner-left}
 use Rattle.tables.specs.Tables.{Transition, state, row-size, rows-size, row-transitions, rows-transitions}
 use Rattle.table_laying.specs.Laid.{Laid, laid-none, laid-rows, laid-rows-end}
-use Rattle.rule_index.specs.RuleLinks.{rule}
+use Rattle.rule_index.specs.RuleLinks.{rule, rule-member}
 use Rattle.rule_index.specs.RuleIndex.{Indexed, kind-in, from-in, to-in, size-in, inner-in, level-in, end-at, shape-by}
-use Rattle.rule_index.specs.RuleIndexLaws.{rule-member}
 
 module _ (size : ℕ → ℕ) (inside : ℕ → ℕ → List Transition) (i : ℕ) where
   -- what laying a shape's row, and nothing else, is

@@ -15,6 +15,6 @@ use Rattle.rule_index.specs.RuleIndex.{Indexed, level-in}
 pub record Indexes (s old new : List ℕ) (v : Verdict) : Type 0 where
   pub verdict : says v ≡ map-result header-of (ordered s)
   pub kept : (cause value : ℕ) → ordered s ≡ refused cause value → new ≡ old
-  pub other : (length old ≡ 3712 → ⊥) → new ≡ old
-  pub index : (b : Book) → ordered s ≡ ok b → length old ≡ 3712 → Indexed (b .rules) new
-  pub few : (b : Book) → ordered s ≡ ok b → length old ≡ 3712 → (x : ℕ) → x < b .names → level-in new x < b .names
+  pub other : (length old ≡ 3904 → ⊥) → new ≡ old
+  pub index : (b : Book) → ordered s ≡ ok b → length old ≡ 3904 → Indexed (b .rules) new
+  pub few : (b : Book) → ordered s ≡ ok b → length old ≡ 3904 → (x : ℕ) → x < b .names → level-in new x < b .names

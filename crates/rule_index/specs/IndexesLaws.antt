@@ -27,7 +27,8 @@ use Rattle.book_decoder.specs.declared.verdict.Verdict.the-variants.{WellFormed
 use Rattle.book_decoder.specs.Verdict.{header-of, says}
 use Rattle.order_checker.specs.declared.Ordering.{Ordering}
 use Rattle.order_checker.specs.Gather.{Levels, Ordered}
-use Rattle.rule_index.specs.RuleLinks.{no-rule, rule}
+use Rattle.table_languages.specs.LeftSides.{fits-apart}
+use Rattle.rule_index.specs.RuleLinks.{no-rule, rule, rule-member}
 use Rattle.rule_index.specs.RuleIndex.{Indexed, level-in, Recorded}
 use Rattle.rule_index.specs.Filling.{Ruled, Entering, Started, Linkable, Linking}
 use Rattle.rule_index.specs.FillingLaws.{recorded-kept}
@@ -75,15 +76,17 @@ module _ (s : List ℕ) (b : Book) (i : read s ≡ ok b) where
         let r : Recorded (rule (b .rules) k) entered k = rw (rule-there k p) (e .entry k p) in
         recorded-kept k (omega (arith, few-rules)) (e .size) (t .size) (λ m v w u. t .kept m (omega (arith, few-rules))) r
 
-    ready : Linkable (b .rules) (length (b .rules)) started
-    ready =
+    ready : Levels levels b → Linkable (b .rules) (length (b .rules)) started
+    ready l =
         record {
           size = t .size;
           count = refl;
           few = few-rules;
-          role = λ k p. entry k p .right;
+          entry = entry;
           small = small;
+          apart = λ k p. fits-apart (λ x. getD levels x 0) (rule (b .rules) k .right) (shape (rule (b .rules) k)) (l .fits _ (rule-member (b .rules) k p));
           none = t .first;
+          clear = t .clear;
         }
 
     -- and linked
@@ -103,6 +106,7 @@ module _ (s : List ℕ) (b : Book) (i : read s ≡ ok b) where
                 (λ m u v w. k .kept m (omega (arith, few-rules)) (λ g q. w (omega arith))) (entry j p);
             next = λ j p. k .next j (omega arith) p;
             first = k .first;
+            kinds = k .kinds;
             fits =
                 λ ρ m.
                 fits-same (level-in ix) (λ x. getD levels x 0) level (name (ρ .right)) (shape ρ) (right-name ρ m)
@@ -144,7 +148,7 @@ module _ {s : List ℕ} {r : Ordering} (o : Ordered s r) where
     pub levels-small : (x : ℕ) → x < 64 → getD (r .levels) x 0 < 64
     levels-small = o .levels (passed .0) (passed .1) .small
 
-    pub indexes-other : {old : List ℕ} → (length old ≡ 3712 → ⊥) → Indexes s old old (WellFormed h)
+    pub indexes-other : {old : List ℕ} → (length old ≡ 3904 → ⊥) → Indexes s old old (WellFormed h)
     indexes-other x =
         record {
           verdict = e;
@@ -156,12 +160,12 @@ module _ {s : List ℕ} {r : Ordering} (o : Ordered s r) where
 
     module _ {entered started : List ℕ} (n : Entering s (h .rules) entered) (t : Started (r .levels) 64 entered started) where
       linkable-book : (b : Book) (q : ordered s ≡ ok b) → Linkable (b .rules) (h .rules) started
-      linkable-book b q = rw (rules b q) (ready s b (ordered-read s b q) (r .levels) entered started (rw (rules b q) at n) t)
+      linkable-book b q = rw (rules b q) (ready s b (ordered-read s b q) (r .levels) entered started (rw (rules b q) at n) t (o .levels b q))
 
       pub linkable : (ρs : List Rule) × Linkable ρs (h .rules) started
       linkable = (passed .0 .rules, linkable-book (passed .0) (passed .1))
 
-      pub indexes-filled : {old : List ℕ} → length old ≡ 3712 → {new : List ℕ} → ((ρs : List Rule) → Linkable ρs (h .rules) started → Linking ρs 0 started new)
+      pub indexes-filled : {old : List ℕ} → length old ≡ 3904 → {new : List ℕ} → ((ρs : List Rule) → Linkable ρs (h .rules) started → Linking ρs 0 started new)
           → Indexes s old new (WellFormed h)
       indexes-filled {old} z {new} k =
           record {

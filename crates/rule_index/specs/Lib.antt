@@ -1,4 +1,5 @@
 pub mod RuleLinks
+pub mod RuleKinds
 pub mod RuleIndex
 pub mod ShapeNumbers
 pub mod Filling

@@ -1,10 +1,12 @@
--- An index of rules by their right name, 3,712 numbers. Rule k has 14 of them from 14 k on: its right role; its kind, 0 for form 4, 1 for form 5
+-- An index of rules by their right name, 3,904 numbers. Rule k has 14 of them from 14 k on: its right role; its kind, 0 for form 4, 1 for form 5
 -- and 2 for a row; whether the row begins, and whether it ends, at the final state; how many inner roles it has; the next rule of the same right
--- name; the inner roles. At 3584 + x stands the first rule of right name x, at 3648 + x the level of name x. 256 stands for no rule.
+-- name; the inner roles. At 3584 + x stands the first rule of right name x, at 3648 + x the level of name x, at 3712 + 64 κ + x whether name x has
+-- a rule of kind κ, 1 or 0. 256 stands for no rule.
 use mathlib.Core.List.{List, List·Memᴰ}
 use mathlib.Core.Path.{_≡_}
 use Prim.Native.Nat.{ℕ, zero, suc, _+_, _*_, _<_, _≤_}
 use lib.ListN.{length, getD}
+use mir.Val.{boolByte}
 use Rattle.base.specs.Part.{part}
 use Rattle.roles.specs.Role.{Chain, name}
 use Rattle.roles.specs.Rule.{Rule}
@@ -13,7 +15,9 @@ use Rattle.order.specs.Shape.{End, Shape, shape}
 use Rattle.order.specs.Shape.End.{initial, final}
 use Rattle.order.specs.Shape.Shape.{transitive, symmetric, row}
 use Rattle.order.specs.Leveled.{Fits}
+use Rattle.tables.specs.Tables.{own-shapes}
 use Rattle.rule_index.specs.RuleLinks.{rule, Link}
+use Rattle.rule_index.specs.RuleKinds.{has}
 
 -- the numbers of rule k
 abbrev pub right-in : List ℕ → ℕ → ℕ
@@ -44,6 +48,9 @@ first-in ix x = getD ix (3584 + x) 0
 abbrev pub level-in : List ℕ → ℕ → ℕ
 level-in ix x = getD ix (3648 + x) 0
 
+abbrev pub flag-in : List ℕ → (kind x : ℕ) → ℕ
+flag-in ix kind x = getD ix (3712 + (64 * kind + x)) 0
+
 -- the state that 0 or 1 stands for
 abbrev pub end-at : ℕ → End
 end-at zero = initial
@@ -66,10 +73,11 @@ pub record Recorded (ρ : Rule) (ix : List ℕ) (k : ℕ) : Type 0 where
 
 -- the numbers are an index of the rules, and their levels are such that the inner names of each rule are lower than its right name
 pub record Indexed (ρs : List Rule) (ix : List ℕ) : Type 0 where
-  pub size : length ix ≡ 3712
+  pub size : length ix ≡ 3904
   pub few : length ρs ≤ 256
   pub named : Named 64 ρs
   pub entry : (k : ℕ) → k < length ρs → Recorded (rule ρs k) ix k
   pub next : (k : ℕ) → k < length ρs → Link ρs (name (rule ρs k .right)) (suc k) (next-in ix k)
   pub first : (x : ℕ) → x < 64 → Link ρs x 0 (first-in ix x)
+  pub kinds : (kind r : ℕ) → kind ≤ 1 → r < 128 → flag-in ix kind (name r) ≡ boolByte (has kind (own-shapes ρs r))
   pub fits : (ρ : Rule) → List·Memᴰ ρ ρs → Fits (level-in ix) (name (ρ .right)) (shape ρ)

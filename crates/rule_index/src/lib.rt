@@ -1,5 +1,6 @@
-// An index of a book's rules by right name, 3,712 numbers: 14 for each rule, which say its right role, its shape and the next rule of the same
-// right name, then the first rule of each name, then the level of each name. 256 stands for no rule.
+// An index of a book's rules by right name, 3,904 numbers: 14 for each rule, which say its right role, its shape and the next rule of the same
+// right name, then the first rule of each name, then the level of each name, then for each of the three kinds of rules which names have one. 256
+// stands for no rule.
 ghost use mathlib.Core.List.{List};
 ghost use mathlib.Core.Path.{_≡_};
 ghost use Prim.Native.Nat.{ℕ, _<_, _≤_};
@@ -18,7 +19,7 @@ use order_checker::order;
 use role_bytes::name;
 use rule_shapes::shape_of;
 
-// Checks the order of a book by causes 1 to 8 and, where it has one and 3,712 numbers are lent, fills the index of its rules; else the numbers
+// Checks the order of a book by causes 1 to 8 and, where it has one and 3,904 numbers are lent, fills the index of its rules; else the numbers
 // keep their values.
 pub fn index(book: &[u8], index: &mut [u16]) -> Verdict
     ensures { λ r. ⌜ Indexes (now (book .entry)) (now (index .entry)) (now (index .exit)) r ⌝ }
@@ -28,7 +29,7 @@ pub fn index(book: &[u8], index: &mut [u16]) -> Verdict
     let Verdict::WellFormed(header) = verdict else {
         return verdict;
     };
-    if index.len() != 3712 {
+    if index.len() != 3904 {
         return verdict;
     }
     let rules = header.rules;
@@ -41,7 +42,7 @@ pub fn index(book: &[u8], index: &mut [u16]) -> Verdict
 
 // Enters the rules, one after another.
 fn enter(book: &[u8], rules: usize, index: &mut [u16])
-    requires { ⌜ Ruled (now book) rules × (length (now index) ≡ 3712) ⌝ }
+    requires { ⌜ Ruled (now book) rules × (length (now index) ≡ 3904) ⌝ }
     ensures { λ _. ⌜ Entering (now (book .entry)) rules (now (index .exit)) ⌝ }
 {
     let mut cursor = Cursor::first();
@@ -60,7 +61,7 @@ fn enter(book: &[u8], rules: usize, index: &mut [u16])
 
 // Enters rule k, its right role and its shape.
 fn enter_rule(left: &[u8], right: u8, k: usize, index: &mut [u16])
-    requires { ⌜ (length (now left) ≤ 8) × (k < 256) × (length (now index) ≡ 3712) ⌝ }
+    requires { ⌜ (length (now left) ≤ 8) × (k < 256) × (length (now index) ≡ 3904) ⌝ }
     ensures { λ _. ⌜ Entered (record { left = now (left .entry); right = right }) k (now (index .entry)) (now (index .exit)) ⌝ }
 {
     let numbers = numbers_of(shape_of(left, right));
@@ -79,20 +80,22 @@ fn enter_rule(left: &[u8], right: u8, k: usize, index: &mut [u16])
     }
 }
 
-// No rule of any name yet, and the levels.
+// No rule of any name or kind yet, and the levels.
 fn start(levels: &[u8; 64], index: &mut [u16])
-    requires { ⌜ (length (now index) ≡ 3712) × ((x : ℕ) → x < 64 → getD (now levels) x 0 < 64) ⌝ }
+    requires { ⌜ (length (now index) ≡ 3904) × ((x : ℕ) → x < 64 → getD (now levels) x 0 < 64) ⌝ }
     ensures { λ _. ⌜ Started (now (levels .entry)) 64 (now (index .entry)) (now (index .exit)) ⌝ }
 {
     let mut x = 0;
     while x < 64 {
         index[3584 + x] = 256;
         index[3648 + x] = levels[x] as u16;
+        index[3712 + x] = 0;
+        index[3776 + x] = 0;
         x += 1;
     }
 }
 
-// From the last rule to the first, each goes in front of the rules of its right name.
+// From the last rule to the first, each goes in front of the rules of its right name, which has a rule of its kind then.
 fn link(rules: usize, index: &mut [u16])
     requires { ⌜ ((ρs : List Rule) × Linkable ρs rules (now index)) ⌝ }
     ensures { λ _. ⌜ ((ρs : List Rule) → Linkable ρs rules (now (index .entry)) → Linking ρs 0 (now (index .entry)) (now (index .exit))) ⌝ }
@@ -102,7 +105,9 @@ fn link(rules: usize, index: &mut [u16])
         k -= 1;
         let at = 14 * k;
         let x = name(index[at] as u8) as usize;
+        let kind = index[at + 1] as usize;
         index[at + 5] = index[3584 + x];
         index[3584 + x] = k as u16;
+        index[3712 + (64 * kind + x)] = 1;
     }
 }

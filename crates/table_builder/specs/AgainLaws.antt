@@ -10,17 +10,17 @@ use Rattle.tables.specs.Tables.{Transition, numbers}
 use Rattle.table_laying.specs.Pieces.{length-numbers}
 use Rattle.table_laying.specs.Fragment.{laid-over}
 use Rattle.table_laying.specs.ShiftedLaws.{Moved, shifted-length, shifted-moved}
-use Rattle.table_builder.specs.Lay.{Lays}
+use Rattle.table_writer.specs.Adding.{Lays}
 use Rattle.table_builder.specs.Memo.{size-in, start-in, count-in, state-in, Sound, Kept, Held, Copied}
-use Rattle.table_builder.specs.declared.lay.Place.{Place}
+use Rattle.table_writer.specs.declared.Place.{Place}
 
 -- the numbers of a role as they were read
-pub held-kept : (memo : List ℕ) (r : ℕ) (p : Place) (n : List ℕ) (z : ℕ) (at : ℕ → List Transition) → Held memo r p n z at
-    → (size start count state : ℕ) → size ≡ size-in memo r → start ≡ start-in memo r → count ≡ count-in memo r → state ≡ state-in memo r
+pub held-kept : (memo : List ℕ) (r : ℕ) {p : Place} {n : List ℕ} {z : ℕ} {at : ℕ → List Transition} → Held memo r p n z at
+    → {size start count state : ℕ} → size ≡ size-in memo r → start ≡ start-in memo r → count ≡ count-in memo r → state ≡ state-in memo r
     → Kept size start count state p n z at
-held-kept memo r p n z at k size start count state a b c d = rw (a, b, c, d) k
+held-kept memo r k a b c d = rw (a, b, c, d) k
 
-module _ (size start count state : ℕ) (p : Place) (n : List ℕ) (z : ℕ) (at : ℕ → List Transition) (k : Kept size start count state p n z at) where
+module _ {size start count state : ℕ} {p : Place} {n : List ℕ} {z : ℕ} {at : ℕ → List Transition} (k : Kept size start count state p n z at) where
   here : length (at (p .state)) ≡ count
   here = from-zero (p .state) ∙ (sym (from-zero state) ∙ k .many)
     where
@@ -52,9 +52,9 @@ module _ (size start count state : ℕ) (p : Place) (n : List ℕ) (z : ℕ) (at
         exact = λ _ _ g. absurd (let f : ⊥ = omega (arith, here, g, l) in f);
       }
 
-  pub again-copied : p .state + size ≤ 2048 → (n′ : List ℕ) → n′ ≡ sets n (3 * p .count) (numbers (at (p .state)))
+  pub again-copied : p .state + size ≤ 2048 → {n′ : List ℕ} → n′ ≡ sets n (3 * p .count) (numbers (at (p .state)))
       → Lays z (at (p .state)) p n (record { state = p .state + size; count = p .count + count }) n′
-  again-copied h n′ e =
+  again-copied h e =
       record {
         within = λ _. omega (arith, k .same);
         over = λ g. absurd (let f : ⊥ = omega (arith, k .same) in f);

@@ -1,9 +1,7 @@
 -- What a build says and writes.
-use mathlib.Core.Bool.{cond, _&&_}
 use mathlib.Core.List.{List}
 use mathlib.Core.Path.{_≡_}
-use Prim.Native.Nat.{ℕ, _*_, _≤_}
-use lib.Dec.{leb}
+use Prim.Native.Nat.{ℕ, _≤_}
 use lib.ListN.{length}
 use Rattle.roles.specs.Rule.{Book}
 use Rattle.base.specs.Result.{Result, map-result}
@@ -14,12 +12,10 @@ use Rattle.rule_index.specs.RuleIndex.{Indexed}
 use Rattle.rule_index.specs.Indexes.{Indexes}
 use Rattle.book_causes.specs.Accepted.{states-of, count-of, heads-of, moves-of, built, written}
 use Rattle.refusals.specs.BuildRefusals.{build-cause, build-value}
-use Rattle.refusals.specs.declared.build.BuildRefusal.the-variants.{States, Transitions, Short}
 use Rattle.table_builder.specs.Lay.{Enough}
-use Rattle.table_builder.specs.declared.Counts.{Counts}
-use Rattle.table_builder.specs.declared.lay.Place.{Place}
-use Rattle.table_builder.specs.declared.Outcome.{Outcome}
-use Rattle.table_builder.specs.declared.Outcome.the-variants.{Built, Refused}
+use Rattle.table_limits.specs.declared.Counts.{Counts}
+use Rattle.table_limits.specs.declared.Outcome.{Outcome}
+use Rattle.table_limits.specs.declared.Outcome.the-variants.{Built, Refused}
 
 -- the numbers of names, states and transitions of a book's tables
 abbrev pub counts-of : Book → Counts
@@ -36,7 +32,7 @@ Answers s heads moves r = says r ≡ map-result counts-of (built s heads moves)
 
 -- the numbers are what indexing a book left of as many others
 abbrev pub Checked : (s ix : List ℕ) → Verdict → Type 0
-Checked s ix v = (old : List ℕ) × (length old ≡ 3712) × Indexes s old ix v
+Checked s ix v = (old : List ℕ) × (length old ≡ 3904) × Indexes s old ix v
 
 -- an ordered book of so many names and its index, with levels below the number of names
 pub record Prepared (s ix : List ℕ) (names : ℕ) : Type 0 where
@@ -46,20 +42,6 @@ pub record Prepared (s ix : List ℕ) (names : ℕ) : Type 0 where
   pub same : names ≡ book .names
   pub few : names ≤ 64
   pub levels : Enough ix names (book .names)
-
--- causes 9 to 11, in this order, of tables of so many names that end at a place: the first that refuses them, or their counts
-abbrev pub settled : (names : ℕ) → Place → (heads moves : ℕ) → Outcome
-settled names end heads moves =
-    cond (leb (end .state) 2048)
-    (cond (leb (end .count) 5120)
-    (cond (leb names heads && leb (3 * end .count) moves) (Built (record { names = names; states = end .state; transitions = end .count })) (Refused Short))
-    (Refused Transitions))
-    (Refused States)
-
--- the names that have been built
-abbrev pub names-in : Outcome → ℕ
-names-in (Built counts) = counts .names
-names-in (Refused refusal) = 0
 
 -- the answer is that of causes 1 to 11, and the lent tables hold what it says
 pub record Builds (s : List ℕ) (h m h′ m′ : List ℕ) (r : Outcome) : Type 0 where

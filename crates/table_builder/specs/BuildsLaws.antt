@@ -21,15 +21,20 @@ use Rattle.book_decoder.specs.declared.verdict.Verdict.the-variants.{WellFormed
 use Rattle.refusals.specs.BookRefusals.{book-cause, book-value}
 use Rattle.book_decoder.specs.Verdict.{header-of, says}
 use Rattle.rule_index.specs.RuleIndex.{Indexed}
-use Rattle.table_builder.specs.Lay.{Rooted}
-use Rattle.table_builder.specs.Builds.{counts-of, Answers, Checked, Prepared, names-in, Builds}
-use Rattle.table_builder.specs.CountedLaws.{builds-refused, builds-laid}
-use Rattle.table_builder.specs.declared.lay.Place.{Place}
-use Rattle.table_builder.specs.declared.Counts.{Counts}
-use Rattle.table_builder.specs.declared.Outcome.{Outcome}
-use Rattle.table_builder.specs.declared.Outcome.the-variants as outcome
+use Rattle.rule_index.specs.Indexes.{Indexes}
+use Rattle.table_limits.specs.Limits.{settled, names-of, names-in}
+use Rattle.table_builder.specs.Lay.{Enough, Counted, Rooted}
+use Rattle.table_builder.specs.Builds.{counts-of, Answers, Checked, Prepared, Builds}
+use Rattle.table_builder.specs.CountedLaws.{judged, builds-refused, builds-laid}
+use Rattle.table_writer.specs.declared.Place.{Place}
+use Rattle.table_limits.specs.declared.Counts.{Counts}
+use Rattle.table_limits.specs.declared.Outcome.{Outcome}
+use Rattle.table_limits.specs.declared.Outcome.the-variants as outcome
 
-module _ (s ix : List ℕ) (v : Verdict) (a : Checked s ix v) where
+pub checked : {s old ix : List ℕ} {v : Verdict} → length old ≡ 3904 → Indexes s old ix v → Checked s ix v
+checked l i = (_, l, i)
+
+module _ {s ix : List ℕ} {v : Verdict} (a : Checked s ix v) where
   -- a book that is in order
   prepare : (b : Book) → Ordered.ordered s ≡ ok b → (names : ℕ) → names ≡ b .names → Prepared s ix names
   prepare b o names e =
@@ -44,7 +49,7 @@ module _ (s ix : List ℕ) (v : Verdict) (a : Checked s ix v) where
       }
 
   -- by its header
-  pub prepared : (h : Header) → v ≡ WellFormed h → Prepared s ix (h .names)
+  prepared : (h : Header) → v ≡ WellFormed h → Prepared s ix (h .names)
   prepared h e = by-result (Ordered.ordered s) refl (sym (ap says e) ∙ a .2 .verdict)
     where
       by-result : (r : Result Book) → Ordered.ordered s ≡ r → ok h ≡ map-result header-of (Ordered.ordered s) → Prepared s ix (h .names)
@@ -52,7 +57,7 @@ module _ (s ix : List ℕ) (v : Verdict) (a : Checked s ix v) where
       by-result (ok b) f g = prepare b f (h .names) (ap (λ (x : Header). x .names) (ok-injective h (header-of b) (g ∙ ap (map-result header-of) f)))
 
   -- a book that is refused
-  pub refused-answers : (heads moves : ℕ) (r : BookRefusal) → v ≡ Refused r → Answers s heads moves (outcome.Refused (BuildRefusal.Book r))
+  refused-answers : (heads moves : ℕ) (r : BookRefusal) → v ≡ Refused r → Answers s heads moves (outcome.Refused (BuildRefusal.Book r))
   refused-answers heads moves r e =
       rw (built-refused s heads moves (book-cause r) (book-value r)
       (accepted-refused s (book-cause r) (book-value r) (by-result (Ordered.ordered s) refl (sym (ap says e) ∙ a .2 .verdict)))) refl
@@ -64,6 +69,27 @@ module _ (s ix : List ℕ) (v : Verdict) (a : Checked s ix v) where
           cc (f, same)
       by-result (ok b) f g = absurd (refused-ok (book-cause r) (book-value r) (header-of b) (g ∙ ap (map-result header-of) f))
 
+  -- what counting asks for, and what is said after it
+  module _ {names : ℕ} (e : names ≡ names-of v) where
+    pub count-ready : (0 < names → (ρs : List Rule) × Indexed ρs ix) × (names ≤ 64)
+    count-ready = by-verdict v refl e
+      where
+        by-verdict : (w : Verdict) → v ≡ w → names ≡ names-of w → (0 < names → (ρs : List Rule) × Indexed ρs ix) × (names ≤ 64)
+        by-verdict (WellFormed h) f g = let p = prepared h f in (λ _. (p .book .rules, p .index), rw g (p .few))
+        by-verdict (Refused r) f g = (λ l. absurd (let d : ⊥ = omega arith in d), omega arith)
+
+    pub answers : {end : Place} → ((ρs : List Rule) → Indexed ρs ix → (fuel : ℕ) → Enough ix names fuel → Counted ρs fuel names end) → (heads moves : ℕ) {x : Outcome}
+        → x ≡ settled v (end .state) (end .count) heads moves → Answers s heads moves x
+    answers {end} c heads moves {x} f = rw f (by-verdict v refl e)
+      where
+        by-verdict : (w : Verdict) → v ≡ w → names ≡ names-of w → Answers s heads moves (settled w (end .state) (end .count) heads moves)
+        by-verdict (WellFormed h) g n =
+            let p = prepared h g in judged s ix (h .names) p end (c′ (p .book .rules) (p .index) (p .book .names) (p .levels)) heads moves
+          where
+            c′ : (ρs : List Rule) → Indexed ρs ix → (fuel : ℕ) → Enough ix (h .names) fuel → Counted ρs fuel (h .names) end
+            c′ = rw n at c
+        by-verdict (Refused r) g n = refused-answers heads moves r g
+
   -- a book that is built, by its counts
   module _ (heads moves : ℕ) where
     counted : (c : Counts) → Answers s heads moves (outcome.Built c) → Prepared s ix (c .names)
@@ -74,13 +100,13 @@ module _ (s ix : List ℕ) (v : Verdict) (a : Checked s ix v) where
         by-result (ok b) f g =
             prepare b (accepted-passed s b (built-accepted s heads moves b f) .ordered) (c .names) (ap (λ (x : Counts). x .names) (ok-injective c (counts-of b) g))
 
-    pub roots-ready : (x : Outcome) → Answers s heads moves x → (n : ℕ) → n ≡ names-in x → (0 < n → (ρs : List Rule) × Indexed ρs ix) × (n ≤ 64)
-    roots-ready (outcome.Built c) e n f = let p = counted c e in (λ _. (p .book .rules, p .index), rw f (p .few))
-    roots-ready (outcome.Refused x) e n f = (λ h. absurd (let g : ⊥ = omega arith in g), omega arith)
+    pub roots-ready : (x : Outcome) → Answers s heads moves x → {n : ℕ} → n ≡ names-in x → (0 < n → (ρs : List Rule) × Indexed ρs ix) × (n ≤ 64)
+    roots-ready (outcome.Built c) e f = let p = counted c e in (λ _. (p .book .rules, p .index), rw f (p .few))
+    roots-ready (outcome.Refused x) e f = (λ h. absurd (let g : ⊥ = omega arith in g), omega arith)
 
-  pub builds : (h m : List ℕ) (x : Outcome) → Answers s (length h) (length m) x → (q : Place) (h′ m′ : List ℕ) (n : ℕ) → n ≡ names-in x
+  pub builds : {h m : List ℕ} (x : Outcome) → Answers s (length h) (length m) x → {q : Place} {h′ m′ : List ℕ} {n : ℕ} → n ≡ names-in x
       → Rooted ix n q h h′ m m′ → Builds s h m h′ m′ x
-  builds h m (outcome.Built c) e q h′ m′ n f r =
+  builds {h} {m} (outcome.Built c) e {q} {h′} {m′} f r =
       let p = counted (length h) (length m) c e in
       builds-laid s ix (c .names) p h m c e q h′ m′ ((rw f at r) .roots (p .book .rules) (p .index) (p .book .names) (p .levels))
-  builds h m (outcome.Refused x) e q h′ m′ n f r = rw (r .none f .0, r .none f .1) (builds-refused s h m x e)
+  builds {h} {m} (outcome.Refused x) e f r = rw (r .none f .0, r .none f .1) (builds-refused s h m x e)

@@ -25,11 +25,12 @@ use Rattle.table_sizes.specs.Sizes.{few-transitions}
 use Rattle.refusals.specs.declared.build.BuildRefusal.{BuildRefusal}
 use Rattle.refusals.specs.declared.build.BuildRefusal.the-variants.{States, Transitions, Short}
 use Rattle.refusals.specs.BuildRefusals.{build-cause, build-value}
-use Rattle.table_builder.specs.declared.Counts.{Counts}
-use Rattle.table_builder.specs.declared.Outcome.the-variants.{Built, Refused}
-use Rattle.table_builder.specs.declared.lay.Place.{Place}
+use Rattle.table_limits.specs.declared.Counts.{Counts}
+use Rattle.table_limits.specs.declared.Outcome.the-variants.{Built, Refused}
+use Rattle.table_limits.specs.Limits.{limited}
+use Rattle.table_writer.specs.declared.Place.{Place}
 use Rattle.table_builder.specs.Lay.{Counted, Roots}
-use Rattle.table_builder.specs.Builds.{counts-of, says, Answers, Prepared, settled, Builds}
+use Rattle.table_builder.specs.Builds.{counts-of, says, Answers, Prepared, Builds}
 
 -- a refusal changes nothing
 pub builds-refused : (s h m : List ℕ) (x : BuildRefusal) → Answers s (length h) (length m) (Refused x) → Builds s h m h m (Refused x)
@@ -38,23 +39,6 @@ builds-refused s h m x e = by-result (built s (length h) (length m)) refl e
     by-result : (r : Result Book) → built s (length h) (length m) ≡ r → says (Refused x) ≡ map-result counts-of r → Builds s h m h m (Refused x)
     by-result (refused c v) f g = record { answer = e; heads = rw f refl; moves = rw f refl }
     by-result (ok b) f g = absurd (refused-ok (build-cause x) (build-value x) (counts-of b) g)
-
--- what each check of causes 9 to 11 settles
-module _ (names : ℕ) (end : Place) (heads moves : ℕ) where
-  pub settled-states : leb (end .state) 2048 ≡ false → Refused States ≡ settled names end heads moves
-  settled-states h = rw h refl
-
-  module _ (states : leb (end .state) 2048 ≡ true) where
-    pub settled-transitions : leb (end .count) 5120 ≡ false → Refused Transitions ≡ settled names end heads moves
-    settled-transitions h = rw (states, h) refl
-
-    module _ (transitions : leb (end .count) 5120 ≡ true) where
-      pub settled-short : (leb names heads && leb (3 * end .count) moves) ≡ false → Refused Short ≡ settled names end heads moves
-      settled-short h = rw (states, transitions, h) refl
-
-      pub settled-built : (leb names heads && leb (3 * end .count) moves) ≡ true
-          → Built (record { names = names; states = end .state; transitions = end .count }) ≡ settled names end heads moves
-      settled-built h = rw (states, transitions, h) refl
 
 module _ (s ix : List ℕ) (names : ℕ) (p : Prepared s ix names) where
   few : states-of (p .book) ≤ 2048 → count-of (p .book) ≤ 5120
@@ -104,7 +88,8 @@ module _ (s ix : List ℕ) (names : ℕ) (p : Prepared s ix names) where
             let room = leb-true (3 * r .count) moves (and-right (leb names heads) (leb (3 * r .count) moves) h) in
             rw (accepted-built s heads moves (p .book) accepts (rw (← p .same) enough) (rw (← same-count) room), p .same, own .within whole, same-count) refl
 
-    pub judged : Answers s heads moves (settled names r heads moves)
+    pub judged : Answers s heads moves (limited names (r .state) (r .count) heads moves)
+    unfolding limited
     judged = by-states (leb (r .state) 2048) refl
       where
         by-lent : (small : r .state ≤ 2048) → r .count ≤ 5120 → (t : Bool) → (leb names heads && leb (3 * r .count) moves) ≡ t

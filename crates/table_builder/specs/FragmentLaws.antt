@@ -2,7 +2,7 @@
 use mathlib.Core.Bool.{Bool, true, false, cond}
 use mathlib.Core.List.{List, [], append-nil}
 use mathlib.Core.Logic.{_⊎_}
-use mathlib.Core.Path.{_≡_, refl}
+use mathlib.Core.Path.{_≡_, refl, _∙_}
 use Prim.Native.Nat.{ℕ, suc, _+_, _<_, _≤_}
 use native.Mathlib.Nat.{add-zero}
 use native.Mathlib.Omega.{arith}
@@ -12,14 +12,17 @@ use Rattle.roles.specs.RoleLaws.{name-inv}
 use Rattle.roles.specs.Rule.{Rule}
 use Rattle.order.specs.Shape.{Shape}
 use Rattle.tables.specs.Tables.{Transition, own-shapes, has-symmetric, has-transitive, rows-size, rows-transitions, size-of, transitions-of}
-use Rattle.rule_index.specs.RuleIndex.{first-in, level-in}
-use Rattle.rule_index.specs.RuleIndexLaws.{Mirrors, indexed-apart, shapes-start}
+use Rattle.rule_index.specs.RuleIndex.{Indexed, first-in, level-in}
+use Rattle.rule_index.specs.RuleIndexLaws.{Mirrors, indexed-apart, shapes-start, mirrors-all, mirrors-none}
+use Rattle.rule_index.specs.RuleKinds.{has}
 use Rattle.table_laying.specs.Laid.{Laid, laid-both}
 use Rattle.table_laying.specs.Fragment.{own-letters, laid-plain, laid-symmetric, fragment-over, by-fuel}
-use Rattle.table_builder.specs.Lay.{Small, Lays, Added, begun, Ready, Lettered, Lain, Fragment-of, Fragment-laid, Rows-laid}
+use Rattle.table_writer.specs.Adding.{Small, Lays, Added, begun, letters-place, letters-moves}
+use Rattle.table_writer.specs.AddingLaws.{letters-added}
+use Rattle.table_builder.specs.Lay.{Ready, Lettered, Lain, Fragment-of, Fragment-laid, Rows-laid}
 use Rattle.table_builder.specs.Memo.{size-in, stored, Sound, Held, Memo}
 use Rattle.table_builder.specs.MemoLaws.{laid-after, memo-step, memo-lettered, memo-kept}
-use Rattle.table_builder.specs.declared.lay.Place.{Place}
+use Rattle.table_writer.specs.declared.Place.{Place}
 
 -- then no rows
 laid-no-rows : (size : ℕ → ℕ) (inside : ℕ → ℕ → List Transition) (i z : ℕ) (ts : List Transition) (p k : ℕ) (m : List ℕ) (q l : ℕ) (n : List ℕ) (r j : ℕ) (o : List ℕ)
@@ -51,6 +54,19 @@ module _ {ix : List ℕ} {role : ℕ} {p : Place} {memo m : List ℕ} (a : Ready
           memo = memo-step (b _ _ (again-held .2)) same (a .memo);
         }
 
+  -- letters by the kinds of the role's rules, and whose mirrors follow
+  module _ {symmetric : Bool} (s : (ρs : List Rule) → Indexed ρs ix → symmetric ≡ has 1 (own-shapes ρs role)) where
+    pub lettered-by : p .state ≤ 2046 → {transitive : Bool} → ((ρs : List Rule) → Indexed ρs ix → transitive ≡ has 0 (own-shapes ρs role)) → {q : Place} {n : List ℕ}
+        → (q ≡ letters-place symmetric transitive role p) × (n ≡ letters-moves symmetric transitive role p m) → Lettered ix role p m q n
+    lettered-by h {transitive} t e ρs i = rw (← s ρs i, ← t ρs i) (letters-added symmetric transitive role h (a .small) (e .0) (e .1))
+
+    pub mirrors-by : {first k : ℕ} → first ≡ first-in ix (name role) → k ≡ cond symmetric first 256 → Mirrors ix role k
+    mirrors-by {first} {k} f e = by-kind symmetric s e
+      where
+        by-kind : (b : Bool) → ((ρs : List Rule) → Indexed ρs ix → b ≡ has 1 (own-shapes ρs role)) → k ≡ cond b first 256 → Mirrors ix role k
+        by-kind true u g = mirrors-all ix role (a .role) u k (g ∙ f)
+        by-kind false u g = rw g (mirrors-none ix role (a .role) u)
+
   -- what is required again after more was laid
   pub ready-lettered : {q : Place} {n : List ℕ} → Lettered ix role p m q n → length n ≡ length m → Ready ix role q memo n
   ready-lettered b same =
@@ -65,8 +81,8 @@ module _ {ix : List ℕ} {role : ℕ} {p : Place} {memo m : List ℕ} (a : Ready
       → (s : ℕ) → s < 128 → Ready ix s q memo′ n
   ready-added b same k s h = record { rules = a .rules; index = a .index; role = h; small = b .small; memo = memo-step (b .laid) same k }
 
-  module _ (v : Place) (n : List ℕ) (letters : Lettered ix role p m v n) (k : ℕ) (e : k ≡ first-in ix (name role)) {q : Place} {memo₁ o : List ℕ}
-      (own : Rows-laid k (p .state) ix role v n q memo₁ o) (j : ℕ) (mirrors : Mirrors ix role j) (r : ℕ) (f : r ≡ inv role) {u : Place} {memo₂ w : List ℕ}
+  module _ {v : Place} {n : List ℕ} (letters : Lettered ix role p m v n) {k : ℕ} (e : k ≡ first-in ix (name role)) {q : Place} {memo₁ o : List ℕ}
+      (own : Rows-laid k (p .state) ix role v n q memo₁ o) {j : ℕ} (mirrors : Mirrors ix role j) {r : ℕ} (f : r ≡ inv role) {u : Place} {memo₂ w : List ℕ}
       (inverse : Rows-laid j (p .state) ix r q o u memo₂ w) where
     -- letters, rows and rows of the inverse
     laid : Fragment-of ix role p m u w
@@ -102,5 +118,5 @@ module _ {ix : List ℕ} {role : ℕ} {p : Place} {memo m : List ℕ} (a : Ready
     fragment-after s = laid-after _ _ p m u w (laid (a .rules) (a .index) (suc (level-in ix (name role))) (omega arith)) s
 
     -- put down in the memo
-    pub fragment-laid : length w ≡ length m → (memo₃ : List ℕ) → (memo₃ ≡ memo₂) ⊎ (Sound u × (memo₃ ≡ stored memo₂ role p u)) → Fragment-laid ix role p m u memo₃ w
-    fragment-laid same memo₃ d = record { small = inverse .small; laid = laid; memo = memo-kept ix role p m u w laid same memo₂ memo₃ (a .role) d (inverse .memo) }
+    pub fragment-laid : length w ≡ length m → {memo₃ : List ℕ} → (memo₃ ≡ memo₂) ⊎ (Sound u × (memo₃ ≡ stored memo₂ role p u)) → Fragment-laid ix role p m u memo₃ w
+    fragment-laid same {memo₃} d = record { small = inverse .small; laid = laid; memo = memo-kept ix role p m u w laid same memo₂ memo₃ (a .role) d (inverse .memo) }

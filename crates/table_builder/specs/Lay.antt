@@ -10,32 +10,13 @@ use Rattle.order.specs.Shape.{Shape}
 use Rattle.tables.specs.Tables.{Transition, numbers, own-shapes, rows-size, rows-transitions, size-of, transitions-of}
 use Rattle.tables.specs.Tables.{states-from, transitions-from, roots-from}
 use Rattle.table_laying.specs.Own.{facing}
-use Rattle.table_laying.specs.Laid.{Laid}
 use Rattle.table_laying.specs.Fragment.{own-letters}
 use Rattle.rule_index.specs.RuleLinks.{rule}
 use Rattle.rule_index.specs.RuleIndex.{Indexed, level-in}
-use Rattle.rule_index.specs.RuleIndexLaws.{has}
+use Rattle.rule_index.specs.RuleKinds.{has}
 use Rattle.table_builder.specs.Memo.{Memo}
-use Rattle.table_builder.specs.declared.lay.Place.{Place}
-
--- states up to one past the limit, and no more transitions than are counted
-pub record Small (p : Place) : Type 0 where
-  pub state : p .state ≤ 2049
-  pub count : p .count ≤ 60000
-
--- z states and some transitions are laid between two places
-abbrev pub Lays : ℕ → List Transition → Place → List ℕ → Place → List ℕ → Type 0
-Lays z ts p m q n = Laid z ts (p .state) (p .count) m (q .state) (q .count) n
-
--- some transitions are added that take no state
-pub record Added (ts : List Transition) (p : Place) (m : List ℕ) (q : Place) (n : List ℕ) : Type 0 where
-  pub small : Small q
-  pub same : q .state ≡ p .state
-  pub laid : Lays 0 ts p m q n
-
--- two states further
-abbrev pub begun : Place → Place
-begun p = record { state = p .state + 2; count = p .count }
+use Rattle.table_writer.specs.declared.Place.{Place}
+use Rattle.table_writer.specs.Adding.{Small, Lays, Added, begun}
 
 -- the letters of a fragment and its transition back
 abbrev pub Lettered : (index : List ℕ) (role : ℕ) → Place → List ℕ → Place → List ℕ → Type 0

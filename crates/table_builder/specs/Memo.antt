@@ -8,7 +8,7 @@ use Rattle.roles.specs.Rule.{Rule}
 use Rattle.tables.specs.Tables.{Transition, size-of, transitions-of, numbers}
 use Rattle.rule_index.specs.RuleIndex.{Indexed, level-in}
 use Rattle.table_laying.specs.Shifted.{Shifted}
-use Rattle.table_builder.specs.declared.lay.Place.{Place}
+use Rattle.table_writer.specs.declared.Place.{Place}
 
 -- the numbers of role r: how many states its fragment takes, its first transition, how many it has, its first state
 abbrev pub size-in : List ℕ → ℕ → ℕ

@@ -15,9 +15,10 @@ use Rattle.table_laying.specs.Pieces.{length-numbers}
 use Rattle.table_laying.specs.Laid.{laid-none, getD-before, getD-stored}
 use Rattle.table_laying.specs.Fragment.{laid-states}
 use Rattle.table_laying.specs.ShiftedLaws.{fragment-shifted}
-use Rattle.table_builder.specs.Lay.{Lays, Added, begun, Fragment-of}
+use Rattle.table_writer.specs.Adding.{Lays, Added, begun}
+use Rattle.table_builder.specs.Lay.{Fragment-of}
 use Rattle.table_builder.specs.Memo.{size-in, start-in, count-in, state-in, stored, Sound, Kept, Held, Memo}
-use Rattle.table_builder.specs.declared.lay.Place.{Place}
+use Rattle.table_writer.specs.declared.Place.{Place}
 
 -- what a sound place says of what was laid before it
 record Exactly (z : ℕ) (ts : List Transition) (p : Place) (m : List ℕ) (q : Place) (n : List ℕ) : Type 0 where

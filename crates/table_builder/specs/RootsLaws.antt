@@ -8,8 +8,9 @@ use lib.ListN.{length, set, length-set}
 use Rattle.roles.specs.Rule.{Rule}
 use Rattle.rule_index.specs.RuleIndex.{Indexed}
 use Rattle.table_laying.specs.RootsLeft.{name-twice, RootsLaid, RootsLeft, roots-left-start, roots-left-next, roots-left-end}
-use Rattle.table_builder.specs.Lay.{Small, Fragment-of, Enough, Roots, Rooted}
-use Rattle.table_builder.specs.declared.lay.Place.{Place}
+use Rattle.table_writer.specs.Adding.{Small}
+use Rattle.table_builder.specs.Lay.{Fragment-of, Enough, Roots, Rooted}
+use Rattle.table_writer.specs.declared.Place.{Place}
 
 -- all roots, read off what is laid from state 0 on
 roots-all : (ρs : List Rule) (fuel names : ℕ) (r : Place) (h h′ m m′ : List ℕ)
@@ -34,7 +35,8 @@ module _ (index : List ℕ) (names : ℕ) (h m : List ℕ) where
     pub none : names ≡ 0 → (g ≡ h) × (n ≡ m)
     pub left : (ρs : List Rule) → Indexed ρs index → (fuel : ℕ) → Enough index names fuel → RootsLeft ρs fuel names h m x (q .state) (q .count) g n
 
-  pub rooting-start : Rooting (record { state = 0; count = 0 }) h m 0
+module _ {index : List ℕ} {names : ℕ} {h m : List ℕ} where
+  pub rooting-start : Rooting index names h m (record { state = 0; count = 0 }) h m 0
   rooting-start =
       record {
         small = record { state = omega arith; count = omega arith };
@@ -44,11 +46,11 @@ module _ (index : List ℕ) (names : ℕ) (h m : List ℕ) where
         left = λ ρs i fuel e. roots-left-start ρs fuel names h m;
       }
 
-  module _ (q : Place) (g n : List ℕ) (x : ℕ) (a : Rooting q g n x) where
-    pub rooting-next : x < names → (f : List ℕ) → f ≡ set g x (q .state) → (v : Place) (o : List ℕ) → Small v → length o ≡ length n
+  module _ {q : Place} {g n : List ℕ} {x : ℕ} (a : Rooting index names h m q g n x) where
+    pub rooting-next : x < names → {f : List ℕ} → f ≡ set g x (q .state) → {v : Place} {o : List ℕ} → Small v → length o ≡ length n
         → Fragment-of index (2 * x) q n v o
-        → Rooting v f o (x + 1)
-    rooting-next l f p v o s z b =
+        → Rooting index names h m v f o (x + 1)
+    rooting-next l {f} p {v} {o} s z b =
         record {
           small = s;
           heads = rw p (length-set g x (q .state) ∙ a .heads);

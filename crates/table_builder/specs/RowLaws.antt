@@ -20,15 +20,17 @@ use Rattle.rule_index.specs.RuleLinks.{rule}
 use Rattle.rule_index.specs.RuleIndex.{Indexed, Recorded, right-in, kind-in, from-in, to-in, size-in, inner-in, level-in, end-at, shape-by}
 use Rattle.rule_index.specs.RuleIndexLaws.{Here}
 use Rattle.rule_index.specs.Facing.{Shape-laid, row-alone, no-row, inner-some, inner-low}
-use Rattle.table_builder.specs.Lay.{Small, Lays, Added, Ready, Fragment-laid, Row-laid}
+use Rattle.table_writer.specs.Adding.{Small, Lays, Added, Adds, one}
+use Rattle.table_writer.specs.AddingLaws.{add-added}
+use Rattle.table_builder.specs.Lay.{Ready, Fragment-laid, Row-laid}
 use Rattle.table_builder.specs.Row.{count-by, chain-in, Inner, Inner-role, Shown, Found}
 use Rattle.table_builder.specs.Memo.{Memo}
 use Rattle.table_builder.specs.MemoLaws.{memo-step}
-use Rattle.table_builder.specs.declared.lay.Place.{Place}
+use Rattle.table_writer.specs.declared.Place.{Place}
 use Rattle.table_builder.specs.declared.lay.InnerRow.{InnerRow}
 
 -- an inner role as it stands, and inverted
-module _ {ix : List ℕ} {ρ : InnerRow} {level : ℕ} (a : Inner ix ρ level) (j : ℕ) (h : j < ρ .size) (s : ℕ) where
+module _ {ix : List ℕ} {ρ : InnerRow} {level : ℕ} (a : Inner ix ρ level) {j : ℕ} (h : j < ρ .size) {s : ℕ} where
   pub inner-straight : ρ .mirrored ≡ false → s ≡ getD ix (ρ .start + j) 0 → Inner-role ix ρ j s
   inner-straight m e =
       record {
@@ -111,7 +113,7 @@ module _ {σs : List Rule} {ix : List ℕ} (x : Indexed σs ix) (role k i : ℕ)
             rw (← here σs x .here h) (inner-low x k (here σs x .real h) (c .0) j (c .1));
       }
 
-  module _ (f t z : ℕ) (ef : f ≡ from-in ix k) (et : t ≡ to-in ix k) (ez : z ≡ count-by (kind-in ix k) (size-in ix k)) where
+  module _ {f t z : ℕ} (ef : f ≡ from-in ix k) (et : t ≡ to-in ix k) (ez : z ≡ count-by (kind-in ix k) (size-in ix k)) where
     pub found-straight : right-in ix k ≡ role → Found ix k role i (record { from = i + f; to = i + t; start = 14 * k + 6; size = z; mirrored = false })
     found-straight e =
         rw (ef, et, ez) (record {
@@ -142,6 +144,12 @@ pub record Rowing (ix : List ℕ) (level : ℕ) (ρ : InnerRow) (p : Place) (m :
   pub memo : Memo ix o q n
   pub left : (ρs : List Rule) → Indexed ρs ix → (fuel : ℕ) → level ≤ fuel
       → RowLeft (size-of ρs fuel) (transitions-of ρs fuel) (chain-in ix ρ) (ρ .from) (ρ .to) (p .state) (p .count) m j reached (q .state) (q .count) n
+
+-- a silent transition on the way
+pub rowing-added : {ix : List ℕ} {level : ℕ} {ρ : InnerRow} {p : Place} {m : List ℕ} {q : Place} {o n : List ℕ} {reached j : ℕ}
+    → Rowing ix level ρ p m q o n reached j → {to : ℕ} → to < 65536 → {v : Place} {n₁ : List ℕ} → Adds (one true reached 128 to) q n v n₁
+    → Added (silent reached to ∷ []) q n v n₁
+rowing-added b h e = add-added true (omega (arith, b .near)) (omega arith) h (b .small) (e .0) (e .1)
 
 module _ {ix : List ℕ} {k role i : ℕ} {ρ : InnerRow} (a : Found ix k role i ρ) where
   many : length (chain-in ix ρ) ≡ ρ .size

@@ -13,7 +13,7 @@ use Rattle.rule_index.specs.RuleLinks.{rule}
 use Rattle.rule_index.specs.RuleIndex.{next-in}
 use Rattle.rule_index.specs.RuleIndexLaws.{Here, at-next, later, shapes-next, shapes-end}
 use Rattle.table_builder.specs.Lay.{Ready, Row-laid, Rows-laid}
-use Rattle.table_builder.specs.declared.lay.Place.{Place}
+use Rattle.table_writer.specs.declared.Place.{Place}
 
 module _ {ix : List ℕ} (role k initial : ℕ) where
   pub rows-none : {p : Place} {m memo : List ℕ} → Ready ix role p memo m → 256 ≤ k → Rows-laid k initial ix role p m p memo m

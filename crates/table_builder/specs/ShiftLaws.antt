@@ -27,24 +27,25 @@ module _ (start size count by : ℕ) (m : List ℕ) where
     pub kept : (x : ℕ) → x < 3 * count → getD n x 0 ≡ getD m x 0
     pub left : (vs : List ℕ) → Copied start size by m vs → sets n (3 * (count + j)) (drop (3 * j) vs) ≡ sets m (3 * count) vs
 
-  pub shifting-start : Shifting m 0
+module _ {start size count by : ℕ} {m : List ℕ} where
+  pub shifting-start : Shifting start size count by m m 0
   shifting-start =
       let e : 3 * (count + 0) ≡ 3 * count = omega arith in
       record { most = omega arith; same = refl; kept = λ x h. refl; left = λ vs c. ap (λ (i : ℕ). sets m i vs) e }
 
   -- the states of the next transition
-  pub shifting-near : (n : List ℕ) (j : ℕ) → Shifting n j → start + size ≤ count → j < size
+  pub shifting-near : {n : List ℕ} {j : ℕ} → Shifting start size count by m n j → start + size ≤ count → j < size
       → ((i : ℕ) → i < size → (getD m (3 * (start + i)) 0 + by < 65536) × (getD m (3 * (start + i) + 2) 0 + by < 65536))
       → (getD n (3 * (start + j)) 0 + by < 65536) × (getD n (3 * (start + j) + 2) 0 + by < 65536)
-  shifting-near n j s early h near =
+  shifting-near {n} {j} s early h near =
       let x : getD n (3 * (start + j)) 0 ≡ getD m (3 * (start + j)) 0 = s .kept (3 * (start + j)) (omega arith) in
       let y : getD n (3 * (start + j) + 2) 0 ≡ getD m (3 * (start + j) + 2) 0 = s .kept (3 * (start + j) + 2) (omega arith) in
       rw (x, y) (near j h)
 
-  pub shifting-next : (n : List ℕ) (j : ℕ) → Shifting n j → start + size ≤ count → j < size
-      → (a b c : ℕ) → a ≡ getD n (3 * (start + j)) 0 + by → b ≡ getD n (3 * (start + j) + 1) 0 → c ≡ getD n (3 * (start + j) + 2) 0 + by
-      → Shifting (set (set (set n (3 * (count + j)) a) (3 * (count + j) + 1) b) (3 * (count + j) + 2) c) (j + 1)
-  shifting-next n j s early h a b c ea eb ec =
+  pub shifting-next : {n : List ℕ} {j : ℕ} → Shifting start size count by m n j → start + size ≤ count → j < size
+      → {a b c : ℕ} → a ≡ getD n (3 * (start + j)) 0 + by → b ≡ getD n (3 * (start + j) + 1) 0 → c ≡ getD n (3 * (start + j) + 2) 0 + by
+      → Shifting start size count by m (set (set (set n (3 * (count + j)) a) (3 * (count + j) + 1) b) (3 * (count + j) + 2) c) (j + 1)
+  shifting-next {n} {j} s early h {a} {b} {c} ea eb ec =
       record {
         most = omega arith;
         same = simp length-set (s .same);
@@ -64,5 +65,5 @@ module _ (start size count by : ℕ) (m : List ℕ) where
       i : ℕ
       i = 3 * (count + j)
 
-  pub shifting-end : (n : List ℕ) (j : ℕ) → Shifting n j → size ≤ j → (vs : List ℕ) → Copied start size by m vs → n ≡ sets m (3 * count) vs
-  shifting-end n j s h vs v = rw (drop-of-length-le vs {i = 3 * j} (omega (arith, v .all))) at (s .left vs v)
+  pub shifting-end : {n : List ℕ} {j : ℕ} → Shifting start size count by m n j → size ≤ j → (vs : List ℕ) → Copied start size by m vs → n ≡ sets m (3 * count) vs
+  shifting-end {n} {j} s h vs v = rw (drop-of-length-le vs {i = 3 * j} (omega (arith, v .all))) at (s .left vs v)

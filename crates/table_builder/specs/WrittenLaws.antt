@@ -18,9 +18,9 @@ use Rattle.book_causes.specs.AcceptedLaws.{accepted-passed, accepted-built, bui
 use Rattle.table_laying.specs.Pieces.{length-numbers, length-roots}
 use Rattle.refusals.specs.declared.build.BuildRefusal.{BuildRefusal}
 use Rattle.refusals.specs.BuildRefusals.{build-cause, build-value}
-use Rattle.table_builder.specs.declared.Counts.{Counts}
-use Rattle.table_builder.specs.declared.Outcome.{Outcome}
-use Rattle.table_builder.specs.declared.Outcome.the-variants.{Built, Refused}
+use Rattle.table_limits.specs.declared.Counts.{Counts}
+use Rattle.table_limits.specs.declared.Outcome.{Outcome}
+use Rattle.table_limits.specs.declared.Outcome.the-variants.{Built, Refused}
 use Rattle.table_builder.specs.Builds.{counts-of, says, Builds}
 
 -- the book that a build has counted

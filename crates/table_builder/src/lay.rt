@@ -1,6 +1,6 @@
 // Lays the fragments of roles depth first: numbers for their states, and their transitions in the order of document 01.
 ghost use mathlib.Core.Bool.{cond};
-ghost use mathlib.Core.List.{List, [], _∷_};
+ghost use mathlib.Core.List.{List};
 ghost use mathlib.Core.Path.{_≡_};
 ghost use Prim.Native.Nat.{ℕ, _<_, _≤_};
 ghost use lib.ListN.{length, set};
@@ -8,21 +8,18 @@ ghost use Rattle.roles.specs.Role.{name as name-of};
 ghost use Rattle.roles.specs.Rule.{Rule};
 ghost use Rattle.tables.specs.Tables.{own-shapes};
 ghost use Rattle.rule_index.specs.RuleIndex.{Indexed, kind-in, size-in, first-in};
-ghost use Rattle.rule_index.specs.RuleIndexLaws.{Here, Mirrors, has};
-ghost use Rattle.table_builder.specs.Lay.{Small, Added, Ready, Fragment-laid, Rows-laid, Row-laid, Lettered, Enough, Counted, Rooted};
+ghost use Rattle.rule_index.specs.RuleIndexLaws.{Here};
+ghost use Rattle.rule_index.specs.RuleKinds.{has};
+ghost use Rattle.table_builder.specs.Lay.{Ready, Fragment-laid, Rows-laid, Row-laid, Enough, Counted, Rooted};
 ghost use Rattle.table_builder.specs.Row.{count-by, Inner, Inner-role, Found};
 use crate::memo::again;
 use crate::memo::keep;
 use crate::memo::number;
 use role_bytes::inverse;
 use role_bytes::name;
-
-// The next free state and the number of transitions so far. A state above 2,048 says that the tables are too large; nothing more is laid
-// then. Transitions are counted up to 60,000, far more than tables of 2,048 states have.
-pub struct Place {
-    pub state: usize,
-    pub count: usize,
-}
+use table_writer::Place;
+use table_writer::add;
+use table_writer::letters;
 
 // The row that a rule adds to a fragment: the states that it leads from and to; where the inner roles stand in the index, how many there are,
 // and whether they are taken inverted, from the last to the first. No inner role says that there is no row.
@@ -53,7 +50,7 @@ pub(crate) fn roots(index: &[u16], names: usize, heads: &mut [u16], moves: &mut 
 
 // The place after the roots of all names, laid where there is no room for them.
 pub(crate) fn count(index: &[u16], names: usize) -> Place
-    requires { ⌜ ((ρs : List Rule) × Indexed ρs (now index)) × (names ≤ 64) ⌝ }
+    requires { ⌜ (0 < names → ((ρs : List Rule) × Indexed ρs (now index))) × (names ≤ 64) ⌝ }
     ensures { λ r. ⌜ ((ρs : List Rule) → Indexed ρs (now (index .entry)) → (fuel : ℕ) → Enough (now (index .entry)) names fuel
         → Counted ρs fuel names r) ⌝ }
 {
@@ -76,13 +73,15 @@ fn fragment(index: &[u16], role: u8, place: Place, memo: &mut [u16], moves: &mut
         };
     }
     let r = role as usize;
-    if 0 < number(memo, r) {
+    if 0 < memo[r] {
         return again(r, place, memo, moves);
     }
-    let lettered = letters(index, role, place, moves);
+    let symmetric = has_kind(index, role, 1);
+    let transitive = has_kind(index, role, 0);
+    let lettered = letters(place, role, symmetric, transitive, moves);
     let first = first_of(index, role);
     let own = rows(index, first, role, initial, lettered, memo, moves);
-    let mirror = first_mirror(index, role);
+    let mirror = mirror_of(first, symmetric);
     let all = rows(index, mirror, inverse(role), initial, own, memo, moves);
     keep(r, place, all, memo);
     all
@@ -134,12 +133,12 @@ fn row(
     let mut j = 0;
     while j < row.size {
         let state = at.state;
-        at = transition(at, true, reached, 128, state, moves);
+        at = add(at, true, reached, 128, state, moves);
         at = fragment(index, inner_role(index, row, j), at, memo, moves);
         reached = state + 1;
         j += 1;
     }
-    transition(at, true, reached, 128, row.to, moves)
+    add(at, true, reached, 128, row.to, moves)
 }
 
 // The row of rule k for a fragment of a role: as it stands, or its mirror where its right role is the inverse of the role.
@@ -171,7 +170,7 @@ fn row_of(index: &[u16], k: usize, role: u8, initial: usize) -> InnerRow
 
 // How many inner roles the row of rule k has, and none where the rule has no row.
 fn inner_count(index: &[u16], k: usize) -> usize
-    requires { ⌜ (k < 256) × (length (now index) ≡ 3712) ⌝ }
+    requires { ⌜ (k < 256) × (length (now index) ≡ 3904) ⌝ }
     ensures { λ r. ⌜ r ≡ count-by (kind-in (now (index .entry)) k) (size-in (now (index .entry)) k) ⌝ }
 {
     if number(index, 14 * k + 1) < 2 {
@@ -192,40 +191,20 @@ fn inner_role(index: &[u16], row: InnerRow, j: usize) -> u8
     number(index, start + j) as u8
 }
 
-// The two states of a fragment, its letters and its transition back.
-fn letters(index: &[u16], role: u8, place: Place, moves: &mut [u16]) -> Place
-    requires { ⌜ ((ρs : List Rule) × Indexed ρs (now index)) × (role < 128) × Small place × (place .state ≤ 2046) ⌝ }
-    ensures { λ r. ⌜ Lettered (now (index .entry)) role place (now (moves .entry)) r (now (moves .exit)) ⌝ }
-{
-    let initial = place.state;
-    let begun = Place {
-        state: initial + 2,
-        count: place.count,
-    };
-    let last = initial + 1;
-    let symmetric = has_kind(index, role, 1);
-    let transitive = has_kind(index, role, 0);
-    let first = transition(begun, true, initial, role as usize, last, moves);
-    let label = inverse(role) as usize;
-    let both = transition(first, symmetric, initial, label, last, moves);
-    transition(both, transitive, last, 128, initial, moves)
-}
-
 // The first rule of a role's name.
 fn first_of(index: &[u16], role: u8) -> usize
-    requires { ⌜ (role < 128) × (length (now index) ≡ 3712) ⌝ }
+    requires { ⌜ (role < 128) × (length (now index) ≡ 3904) ⌝ }
     ensures { λ r. ⌜ r ≡ first-in (now (index .entry)) (name-of role) ⌝ }
 {
     number(index, 3584 + name(role) as usize)
 }
 
-// The first rule of a role's name if the role is symmetric, else none: from it on the inverse's rules add rows as well.
-fn first_mirror(index: &[u16], role: u8) -> usize
-    requires { ⌜ ((ρs : List Rule) × Indexed ρs (now index)) × (role < 128) ⌝ }
-    ensures { λ r. ⌜ Mirrors (now (index .entry)) role r ⌝ }
+// The first rule whose mirror a fragment has: the first of its name if it is symmetric, else none.
+fn mirror_of(first: usize, symmetric: bool) -> usize
+    ensures { λ r. ⌜ r ≡ cond symmetric first 256 ⌝ }
 {
-    if has_kind(index, role, 1) {
-        return first_of(index, role);
+    if symmetric {
+        return first;
     }
     256
 }
@@ -235,53 +214,7 @@ fn has_kind(index: &[u16], role: u8, kind: usize) -> bool
     requires { ⌜ ((ρs : List Rule) × Indexed ρs (now index)) × (role < 128) × (kind ≤ 1) ⌝ }
     ensures { λ r. ⌜ ((ρs : List Rule) → Indexed ρs (now (index .entry)) → r ≡ has kind (own-shapes ρs role)) ⌝ }
 {
-    let mut k = first_of(index, role);
-    while k < 256 {
-        if number(index, 14 * k + 1) == kind {
-            return true;
-        }
-        k = number(index, 14 * k + 5);
-    }
-    false
-}
-
-// Counts one transition if there is to be one, unless the tables are too large already, and writes it where there is room.
-fn transition(
-    place: Place,
-    present: bool,
-    from: usize,
-    label: usize,
-    to: usize,
-    moves: &mut [u16],
-) -> Place
-    requires { ⌜ Small place × (from < 65536) × (label < 65536) × (to < 65536) ⌝ }
-    ensures { λ r. ⌜ Added (cond present (record { from = from; label = label; to = to } ∷ []) []) place (now (moves .entry)) r
-        (now (moves .exit)) ⌝ }
-{
-    let state = place.state;
-    let count = place.count;
-    if !present {
-        return place;
-    }
-    if 2048 < state {
-        return place;
-    }
-    if 60000 <= count {
-        return place;
-    }
-    if moves.len() < 3 * count + 3 {
-        return Place {
-            state: state,
-            count: count + 1,
-        };
-    }
-    moves[3 * count] = from as u16;
-    moves[3 * count + 1] = label as u16;
-    moves[3 * count + 2] = to as u16;
-    Place {
-        state: state,
-        count: count + 1,
-    }
+    number(index, 3712 + (64 * kind + name(role) as usize)) == 1
 }
 
 // Writes one number where there is room for it.

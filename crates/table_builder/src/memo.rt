@@ -8,9 +8,9 @@ ghost use Prim.Native.Nat.{ℕ, _+_, _*_, _<_, _≤_};
 ghost use lib.ListN.{length, getD};
 ghost use lib.Seq.{sets};
 ghost use Rattle.tables.specs.Tables.{Transition};
-ghost use Rattle.table_builder.specs.Lay.{Small, Lays};
+ghost use Rattle.table_writer.specs.Adding.{Small, Lays};
 ghost use Rattle.table_builder.specs.Memo.{Sound, Held, stored, Copied};
-use crate::lay::Place;
+use table_writer::Place;
 
 // A number of a table.
 pub(crate) fn number(table: &[u16], at: usize) -> usize

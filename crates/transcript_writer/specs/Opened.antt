@@ -8,7 +8,7 @@ use Rattle.roles.specs.Rule.{Book}
 use Rattle.base.specs.Result.{Result, map-result}
 use Rattle.base.specs.Result.Result.{refused, ok}
 use Rattle.book_causes.specs.Accepted.{states-of, count-of, heads-of, moves-of, built, written}
-use Rattle.table_builder.specs.declared.Counts.{Counts}
+use Rattle.table_limits.specs.declared.Counts.{Counts}
 use Rattle.transcript_lines.specs.Lines.{first-line}
 use Rattle.transcript_writer.specs.declared.opening.Tables.{Tables}
 use Rattle.transcript_writer.specs.declared.opening.Opening.{Opening}

@@ -10,7 +10,7 @@ use Rattle.base.specs.Result.Result.{refused, ok}
 use Rattle.book_causes.specs.Accepted.{states-of, count-of, heads-of, moves-of, built}
 use Rattle.base.specs.Writing.{over}
 use Rattle.table_laying.specs.Pieces.{length-numbers, length-roots}
-use Rattle.table_builder.specs.declared.Outcome.{Outcome}
+use Rattle.table_limits.specs.declared.Outcome.{Outcome}
 use Rattle.table_builder.specs.Builds.{counts-of, says, Builds}
 use Rattle.base.specs.WritingLaws.{over-front}
 use Rattle.transcript_lines.specs.Lines.{first-line}

@@ -6,14 +6,14 @@ use native.Mathlib.Omega.{arith}
 use borrow.Author.Needs.{needs}
 use lib.ListN.{length, length-set}
 use Rattle.roles.specs.Rule.{Rule}
-use Rattle.rule_index.specs.RuleIndex.{right-in}
+use Rattle.rule_index.specs.RuleIndex.{right-in, kind-in}
 use Rattle.rule_index.specs.Filling.{Linkable, Linking}
-use Rattle.rule_index.specs.FillingLaws.{linking-none, role-small, name-small, linking-more}
+use Rattle.rule_index.specs.FillingLaws.{linking-none, role-small, kind-small, name-small, linking-more}
 use Rattle.rule_index.proofs.link.Statement.{statement}
 use Rattle.rule_index.proofs.link.Tie as tie
 
 abbrev Inv-loop : tie.InvT-loop
-Inv-loop rules index₀ k₀ index k = (k ≤ rules) × (rules ≤ 256) × (length index ≡ 3712) × ((ρs : List Rule) → Linkable ρs rules index₀ → Linking ρs k index₀ index)
+Inv-loop rules index₀ k₀ index k = (k ≤ rules) × (rules ≤ 256) × (length index ≡ 3904) × ((ρs : List Rule) → Linkable ρs rules index₀ → Linking ρs k index₀ index)
 
 abbrev μ-loop : tie.MeasureT-loop
 μ-loop rules index₀ k₀ index k = k
@@ -24,6 +24,11 @@ role c =
     let l = c .before .before .before .pre .1 in
     role-small l (omega arith) (c .before .loop .inv .0) (c .before .loop .inv .3 _ l)
 
+kind : (c : tie.In-loop Inv-loop μ-loop) → kind-in (c .before .loop .index) (c .before .loop .k - 1) ≤ 2
+kind c =
+    let l = c .before .before .before .pre .1 in
+    kind-small l (omega arith) (c .before .loop .inv .0) (c .before .loop .inv .3 _ l)
+
 small : (c : tie.After-name Inv-loop μ-loop) → c .name .result < 64
 small c =
     let l = c .before .before .before .before .before .pre .1 in
@@ -32,8 +37,8 @@ small c =
 
 loop-again : tie.Need-loop-again Inv-loop μ-loop
 loop-again c =
-    let t = c .before .before .before .before .loop in
-    (omega arith, t .inv .1, simp length-set (t .inv .2), λ ρs l. linking-more l (omega arith) (t .inv .0) (t .inv .3 ρs l) (c .before .name .ensures))
+    let t = c .before .before .before .before .before .loop in
+    (omega arith, t .inv .1, simp length-set (t .inv .2), λ ρs l. linking-more l (omega arith) (t .inv .0) (t .inv .3 ρs l) (c .before .before .name .ensures))
 
 returns : tie.Need-returns Inv-loop μ-loop
 returns c = let e : 0 ≡ c .before .loop .k = omega arith in rw e (c .before .loop .inv .3)
@@ -52,16 +57,25 @@ link-spec =
     (λ c. omega (arith, role (c .before)))
     (λ c κs. search needs)
     (λ c. omega (arith, small c))
-    (λ c. omega (arith, small c))
-    (λ c. omega (arith, small c))
-    (λ c. omega (arith, small (c .before)))
     (λ c. search needs)
     (λ c. search needs)
     (λ c. search needs)
-    (λ c. search needs)
+    (λ c. omega (arith, kind (c .before .before .before)))
     (λ c. omega (arith, small (c .before)))
     (λ c. omega (arith, small (c .before)))
-    (λ c. simp length-set (omega (arith, small (c .before))))
+    (λ c. omega (arith, small (c .before .before)))
+    (λ c. search needs)
+    (λ c. search needs)
+    (λ c. search needs)
+    (λ c. search needs)
+    (λ c. omega (arith, small (c .before .before)))
+    (λ c. omega (arith, small (c .before .before)))
+    (λ c. simp length-set (omega (arith, small (c .before .before))))
+    (λ c. omega (arith, kind (c .before .before .before .before)))
+    (λ c. omega (arith, kind (c .before .before .before .before), small (c .before .before)))
+    (λ c. omega (arith, kind (c .before .before .before .before), small (c .before .before)))
+    (λ c. omega (arith, kind (c .before .before .before .before), small (c .before .before)))
+    (λ c. simp length-set (omega (arith, kind (c .before .before .before .before), small (c .before .before))))
     (λ c. search needs)
     loop-again
     (λ c. c .before .loop .inv .2 ∙ sym (c .before .before .before .pre .1 .size))

@@ -11,8 +11,8 @@ use Rattle.roles.specs.Role.{name}
 use Rattle.roles.specs.RoleLaws.{name-inv, inv-below}
 use Rattle.rule_index.specs.RuleIndex.{level-in}
 use Rattle.rule_index.specs.RuleIndexLaws.{at-start, later}
-use Rattle.table_builder.specs.FragmentLaws.{over-laid, again-held, again-laid, ready-lettered, ready-laid, ready-added, fragment-after, fragment-laid}
-use Rattle.table_builder.specs.RowLaws.{Rowing, row-none, rowing-start, rowing-next, rowing-end}
+use Rattle.table_builder.specs.FragmentLaws.{over-laid, again-held, again-laid, lettered-by, mirrors-by, ready-lettered, ready-laid, ready-added, fragment-after, fragment-laid}
+use Rattle.table_builder.specs.RowLaws.{Rowing, row-none, rowing-start, rowing-added, rowing-next, rowing-end}
 use Rattle.table_builder.specs.RulesLaws.{Walking, walking-start, walking-later, walking-next, walking-end}
 use Rattle.table_builder.proofs.lay.fragment.Reads as fragment
 use Rattle.table_builder.proofs.lay.fragment.Kinds as fragment-kinds
@@ -24,12 +24,13 @@ use Rattle.table_builder.proofs.lay.rows.Reads as rows
 use Rattle.table_builder.proofs.lay.rows.Kinds as rows-kinds
 use Rattle.table_builder.proofs.lay.+fragment+row+rows.Lts-rows as rows-lts
 use Rattle.role_bytes.proofs.inverse.Reads as inverse-reads
-use Rattle.table_builder.proofs.lay.first_mirror.Reads as first-mirror-reads
+use Rattle.table_writer.proofs.add.Reads as add-reads
+use Rattle.table_writer.proofs.letters.Reads as letters-reads
 use Rattle.table_builder.proofs.lay.first_of.Reads as first-of-reads
+use Rattle.table_builder.proofs.lay.has_kind.Reads as has-kind-reads
 use Rattle.table_builder.proofs.lay.inner_role.Reads as inner-role-reads
-use Rattle.table_builder.proofs.lay.letters.Reads as letters-reads
+use Rattle.table_builder.proofs.lay.mirror_of.Reads as mirror-of-reads
 use Rattle.table_builder.proofs.lay.row_of.Reads as row-of-reads
-use Rattle.table_builder.proofs.lay.transition.Reads as transition-reads
 use Rattle.table_builder.proofs.memo.again.Reads as again-reads
 use Rattle.table_builder.proofs.memo.keep.Reads as keep-reads
 use Rattle.table_builder.proofs.memo.number.Reads as number-reads
@@ -65,18 +66,18 @@ rows-below t = and 3 rows-kinds.ps (falls 3 rows-kinds.ps _<_ μ-rows t) rows.Pr
 
 abbrev fragment-claims : ℕ → fragment-lts.Claims
 fragment-claims t = (
-  number-reads.Asked,
-  number-reads.Learnt,
   again-reads.Asked,
   again-reads.Learnt,
+  has-kind-reads.Asked,
+  has-kind-reads.Learnt,
   letters-reads.Asked,
   letters-reads.Learnt,
   first-of-reads.Asked,
   first-of-reads.Learnt,
   rows-below t,
   rows.Post,
-  first-mirror-reads.Asked,
-  first-mirror-reads.Learnt,
+  mirror-of-reads.Asked,
+  mirror-of-reads.Learnt,
   inverse-reads.Asked,
   inverse-reads.Learnt,
   keep-reads.Asked,
@@ -87,8 +88,8 @@ abbrev row-claims : ℕ → row-lts.Claims
 row-claims t = (
   row-of-reads.Asked,
   row-of-reads.Learnt,
-  transition-reads.Asked,
-  transition-reads.Learnt,
+  add-reads.Asked,
+  add-reads.Learnt,
   inner-role-reads.Asked,
   inner-role-reads.Learnt,
   fragment-below t,
@@ -112,53 +113,59 @@ abbrev μ-loop : row-lts.MeasureT-loop
 
 fragment-again-requires : (t : ℕ) → fragment-lts.Need-again-requires (fragment-claims t) (fragment-at t) fragment.Post
 fragment-again-requires t c κs =
-    let pre = c .before .before .before .before .before .before .before .before .before .pre in
-    ((pre .1 .role, pre .1 .memo .size), ((pre .1 .small, omega (arith, c .before .before .before .before .before .if1 .left)), again-held (pre .1) (rw (c .before .before .before .number .ensures .0) at (c .before .before .if2 .taken))))
+    let turn = c .before .before in
+    let pre = turn .before .before .before .before .before .before .pre in
+    ((pre .1 .role, pre .1 .memo .size), ((pre .1 .small, omega (arith, turn .before .before .if1 .left)), again-held (pre .1) (turn .if2 .taken)))
 
 fragment-returns-2 : (t : ℕ) → fragment-lts.Need-returns-2 (fragment-claims t) (fragment-at t) fragment.Post
-fragment-returns-2 t c = again-laid (c .before .before .before .before .before .before .before .before .before .before .before .before .pre .1) (rw (c .before .before .before .before .before .before .number .ensures .0) at (c .before .before .before .before .before .if2 .taken)) (c .before .before .again .ensures .0) (c .before .before .again .ensures .1) (c .before .before .again .kept .1 .1 .1 .0)
-
-fragment-letters-requires : (t : ℕ) → fragment-lts.Need-letters-requires (fragment-claims t) (fragment-at t) fragment.Post
-fragment-letters-requires t c κs =
-    let pre = c .before .before .before .before .before .before .before .before .pre in
-    ((pre .1 .rules, pre .1 .index), pre .1 .role, pre .1 .small, c .before .before .before .before .if1 .left)
-
-fragment-first-of-requires : (t : ℕ) → fragment-lts.Need-first-of-requires (fragment-claims t) (fragment-at t) fragment.Post
-fragment-first-of-requires t c κs =
-    let pre = c .before .before .before .before .before .before .before .before .before .before .before .pre in
-    (pre .1 .role, pre .1 .index .size)
+fragment-returns-2 t c =
+    let again = c .before .before .again in
+    let turn = c .before .before .before .before .before in
+    again-laid (turn .before .before .before .before .before .before .pre .1) (turn .if2 .taken) (again .ensures .0) (again .ensures .1) (again .kept .1 .1 .1 .0)
 
 fragment-rows-requires : (t : ℕ) → fragment-lts.Need-rows-requires (fragment-claims t) (fragment-at t) fragment.Post
 fragment-rows-requires t c κs =
-    let entry = c .before .before .before .before .before .before .before .before .before .before .before .before .before .before in
+    let letters = c .before .before .before .before .before in
+    let symmetric = letters .before .before .before in
+    let few = symmetric .before .before .before .if1 .left in
+    let entry = symmetric .before .before .before .before .before .before .before in
     let pre = entry .pre in
-    let letters = c .before .before .before .before .before .letters in
-    (omega (arith, pre .0), (ready-lettered (pre .1) (letters .ensures) (letters .kept .1 .1 .1 .0), (λ ρs i. rw (c .before .before .first-of .ensures) (at-start i (entry .args .role) (pre .1 .role)), c .before .before .before .before .before .before .before .before .before .before .if1 .left)))
-
-fragment-first-mirror-requires : (t : ℕ) → fragment-lts.Need-first-mirror-requires (fragment-claims t) (fragment-at t) fragment.Post
-fragment-first-mirror-requires t c κs =
-    let pre = c .before .before .before .before .before .before .before .before .before .before .before .before .before .before .before .before .before .before .before .pre in
-    ((pre .1 .rules, pre .1 .index), pre .1 .role)
+    let lettered = lettered-by (pre .1) (symmetric .has-kind .ensures) few (letters .before .before .has-kind2 .ensures) (letters .letters .ensures) in
+    (omega (arith, pre .0), (ready-lettered (pre .1) lettered (letters .letters .kept .1 .1 .1 .1 .0), (λ ρs i. rw (c .before .before .first-of .ensures) (at-start i (entry .args .role) (pre .1 .role)), few)))
 
 fragment-rows-requires-2 : (t : ℕ) → fragment-lts.Need-rows-requires-2 (fragment-claims t) (fragment-at t) fragment.Post
 fragment-rows-requires-2 t c κs =
-    let entry = c .before .before .before .before .before .before .before .before .before .before .before .before .before .before .before .before .before .before .before .before .before .before .before in
+    let inverse = c .before .before .inverse in
+    let first = c .before .before .before .before .before .before .before .before .before .before .before in
+    let symmetric = first .before .before .before .before .before .before in
+    let entry = symmetric .before .before .before .before .before .before .before in
     let pre = entry .pre in
     let args = entry .args in
-    (omega (arith, pre .0, ap (level-in (args .index .now)) (ap name (c .before .before .inverse .ensures) ∙ name-inv (args .role))), (ready-laid (pre .1) (c .before .before .before .before .before .before .before .before .rows .ensures) _ (rw (c .before .before .inverse .ensures) (inv-below _ 64 (pre .1 .role))), (λ ρs i. rw (c .before .before .inverse .ensures) (c .before .before .before .first-mirror .ensures .here ρs i), c .before .before .before .before .before .before .before .before .before .before .before .before .before .before .before .before .before .before .before .if1 .left)))
+    let mirrors = mirrors-by (pre .1) (symmetric .has-kind .ensures) (first .first-of .ensures) (c .before .before .before .mirror-of .ensures) in
+    (omega (arith, pre .0, ap (level-in (args .index .now)) (ap name (inverse .ensures) ∙ name-inv (args .role))), (ready-laid (pre .1) (c .before .before .before .before .before .before .before .before .rows .ensures) _ (rw (inverse .ensures) (inv-below _ 64 (pre .1 .role))), (λ ρs i. rw (inverse .ensures) (mirrors .here ρs i), symmetric .before .before .before .if1 .left)))
 
 fragment-keep-requires : (t : ℕ) → fragment-lts.Need-keep-requires (fragment-claims t) (fragment-at t) fragment.Post
 fragment-keep-requires t c κs =
-    let pre = c .before .before .before .before .before .before .before .before .before .before .before .before .before .before .before .before .before .before .before .before .before .before .before .before .before .before .before .before .before .pre in
     let rows2 = c .before .before .before .before .before .rows2 in
-    ((pre .1 .role, rows2 .ensures .memo .size), fragment-after (pre .1) _ _ (c .before .before .before .before .before .before .before .before .before .before .before .before .before .before .before .before .before .before .before .before .letters .ensures) _ (c .before .before .before .before .before .before .before .before .before .before .before .before .before .before .before .before .before .first-of .ensures) (c .before .before .before .before .before .before .before .before .before .before .before .before .before .before .rows .ensures) _ (c .before .before .before .before .before .before .before .before .before .first-mirror .ensures) _ (c .before .before .before .before .before .before .before .before .inverse .ensures) (rows2 .ensures))
+    let first = c .before .before .before .before .before .before .before .before .before .before .before .before .before .before .before .before .before in
+    let letters = first .before .before .before in
+    let symmetric = letters .before .before .before in
+    let pre = symmetric .before .before .before .before .before .before .before .pre in
+    let lettered = lettered-by (pre .1) (symmetric .has-kind .ensures) (symmetric .before .before .before .if1 .left) (letters .before .before .has-kind2 .ensures) (letters .letters .ensures) in
+    let mirrors = mirrors-by (pre .1) (symmetric .has-kind .ensures) (first .first-of .ensures) (c .before .before .before .before .before .before .before .before .before .mirror-of .ensures) in
+    ((pre .1 .role, rows2 .ensures .memo .size), fragment-after (pre .1) lettered (first .first-of .ensures) (c .before .before .before .before .before .before .before .before .before .before .before .before .before .before .rows .ensures) mirrors (c .before .before .before .before .before .before .before .before .inverse .ensures) (rows2 .ensures))
 
 fragment-returns-3 : (t : ℕ) → fragment-lts.Need-returns-3 (fragment-claims t) (fragment-at t) fragment.Post
 fragment-returns-3 t c =
-    let letters = c .before .before .before .before .before .before .before .before .before .before .before .before .before .before .before .before .before .before .before .before .before .before .before .letters in
-    let rows = c .before .before .before .before .before .before .before .before .before .before .before .before .before .before .before .before .before .rows in
     let rows2 = c .before .before .before .before .before .before .before .before .rows2 in
-    fragment-laid (c .before .before .before .before .before .before .before .before .before .before .before .before .before .before .before .before .before .before .before .before .before .before .before .before .before .before .before .before .before .before .before .before .pre .1) _ _ (letters .ensures) _ (c .before .before .before .before .before .before .before .before .before .before .before .before .before .before .before .before .before .before .before .before .first-of .ensures) (rows .ensures) _ (c .before .before .before .before .before .before .before .before .before .before .before .before .first-mirror .ensures) _ (c .before .before .before .before .before .before .before .before .before .before .before .inverse .ensures) (rows2 .ensures) (rows2 .kept .1 .1 .1 .1 .1 .1 .0 ∙ (rows .kept .1 .1 .1 .1 .1 .1 .0 ∙ letters .kept .1 .1 .1 .0)) _ (c .before .before .keep .ensures)
+    let rows = c .before .before .before .before .before .before .before .before .before .before .before .before .before .before .before .before .before .rows in
+    let first = c .before .before .before .before .before .before .before .before .before .before .before .before .before .before .before .before .before .before .before .before in
+    let letters = first .before .before .before in
+    let symmetric = letters .before .before .before in
+    let pre = symmetric .before .before .before .before .before .before .before .pre in
+    let lettered = lettered-by (pre .1) (symmetric .has-kind .ensures) (symmetric .before .before .before .if1 .left) (letters .before .before .has-kind2 .ensures) (letters .letters .ensures) in
+    let mirrors = mirrors-by (pre .1) (symmetric .has-kind .ensures) (first .first-of .ensures) (c .before .before .before .before .before .before .before .before .before .before .before .before .mirror-of .ensures) in
+    fragment-laid (pre .1) lettered (first .first-of .ensures) (rows .ensures) mirrors (c .before .before .before .before .before .before .before .before .before .before .before .inverse .ensures) (rows2 .ensures) (rows2 .kept .1 .1 .1 .1 .1 .1 .0 ∙ (rows .kept .1 .1 .1 .1 .1 .1 .0 ∙ letters .letters .kept .1 .1 .1 .1 .0)) (c .before .before .keep .ensures)
 
 row-row-of-requires : (t : ℕ) → row-lts.Need-row-of-requires (row-claims t) (row-at t) row.Post Inv-loop μ-loop
 row-row-of-requires t c κs = ((c .before .before .before .pre .1 .0 .rules, c .before .before .before .pre .1 .0 .index), c .before .before .before .pre .1 .1 .0, c .before .before .before .pre .1 .1 .2, c .before .before .before .pre .1 .1 .1)
@@ -166,21 +173,17 @@ row-row-of-requires t c κs = ((c .before .before .before .pre .1 .0 .rules, c .
 row-returns : (t : ℕ) → row-lts.Need-returns (row-claims t) (row-at t) row.Post Inv-loop μ-loop
 row-returns t c = row-none (c .before .before .row-of .ensures) (c .if1 .taken) (c .before .before .before .before .before .before .pre .1 .0)
 
-row-transition-requires : (t : ℕ) → row-lts.Need-transition-requires (row-claims t) (row-at t) row.Post Inv-loop μ-loop
-row-transition-requires t c κs =
-    let loop = c .before .before .before .loop in
-    (loop .inv .small, omega (arith, loop .inv .near), omega arith, omega (arith, loop .inv .small .state))
-
 row-inner-role-requires : (t : ℕ) → row-lts.Need-inner-role-requires (row-claims t) (row-at t) row.Post Inv-loop μ-loop
 row-inner-role-requires t c κs = (c .before .before .before .before .if2 .taken, (_, c .before .before .before .before .before .before .before .before .before .row-of .ensures .inner))
 
 row-fragment-requires : (t : ℕ) → row-lts.Need-fragment-requires (row-claims t) (row-at t) row.Post Inv-loop μ-loop
 row-fragment-requires t c κs =
-    let entry = c .before .before .before .before .before .before .before .before .before .before .before .before .before .before .before .before in
-    let pre = entry .pre in
-    let args = entry .args in
-    let transition = c .before .before .before .before .before .transition in
-    (omega (arith, pre .0, c .before .before .inner-role .ensures .lower (level-in (args .index .now) (name (args .role))) (c .before .before .before .before .before .before .before .before .before .before .before .before .row-of .ensures .inner)), ready-added (pre .1 .0) (transition .ensures) (transition .kept .1 .1 .1 .1 .1 .0) (c .before .before .before .before .before .before .before .before .before .loop .inv .memo) _ (c .before .before .inner-role .ensures .small))
+    let add = c .before .before .before .before .before .add in
+    let turn = c .before .before .before .before .before .before .before .before .before in
+    let row-of = turn .before .before .before .row-of in
+    let entry = turn .before .before .before .before .before .before .before in
+    let role = c .before .before .inner-role in
+    (omega (arith, entry .pre .0, role .ensures .lower (level-in (entry .args .index .now) (name (entry .args .role))) (row-of .ensures .inner)), ready-added (entry .pre .1 .0) (rowing-added (turn .loop .inv) (omega (arith, turn .loop .inv .small .state)) (add .ensures)) (add .kept .1 .1 .1 .1 .1 .0) (turn .loop .inv .memo) _ (role .ensures .small))
 
 row-add-reached : (t : ℕ) → row-lts.Need-add-reached (row-claims t) (row-at t) row.Post Inv-loop μ-loop
 row-add-reached t c = omega (arith, c .before .before .before .before .before .before .before .before .before .before .before .before .before .before .loop .inv .small .state)
@@ -193,23 +196,23 @@ row-loop-less t c = omega (arith, c .before .before .before .before .before .bef
 
 row-loop-again : (t : ℕ) → row-lts.Need-loop-again (row-claims t) (row-at t) row.Post Inv-loop μ-loop
 row-loop-again t c =
-    let transition = c .before .before .before .before .before .before .before .before .before .before .transition in
     let fragment = c .before .before .before .before .fragment in
-    rowing-next (c .before .before .before .before .before .before .before .before .before .before .before .before .before .before .before .before .before .row-of .ensures) (c .before .before .before .before .before .before .before .before .before .before .before .before .before .before .loop .inv) (transition .kept .1 .1 .1 .1 .1 .0) (transition .ensures) (c .before .before .before .before .before .before .before .before .before .before .before .before .if2 .taken) (c .before .before .before .before .before .before .before .inner-role .ensures) (fragment .kept .1 .1 .1 .1 .0) (fragment .ensures)
-
-row-transition-requires-2 : (t : ℕ) → row-lts.Need-transition-requires-2 (row-claims t) (row-at t) row.Post Inv-loop μ-loop
-row-transition-requires-2 t c κs =
-    let loop = c .before .before .before .loop in
-    (loop .inv .small, omega (arith, loop .inv .near), omega arith, omega (arith, c .before .before .before .before .before .before .row-of .ensures .near .1))
+    let add = c .before .before .before .before .before .before .before .before .before .before .add in
+    let turn = c .before .before .before .before .before .before .before .before .before .before .before .before .before .before in
+    rowing-next (turn .before .before .before .row-of .ensures) (turn .loop .inv) (add .kept .1 .1 .1 .1 .1 .0) (rowing-added (turn .loop .inv) (omega (arith, turn .loop .inv .small .state)) (add .ensures)) (c .before .before .before .before .before .before .before .before .before .before .before .before .if2 .taken) (c .before .before .before .before .before .before .before .inner-role .ensures) (fragment .kept .1 .1 .1 .1 .0) (fragment .ensures)
 
 row-same-length : (t : ℕ) → row-lts.Need-same-length (row-claims t) (row-at t) row.Post Inv-loop μ-loop
 row-same-length t c = c .before .before .before .before .before .before .loop .inv .memo .size ∙ sym (c .before .before .before .before .before .before .before .before .before .before .before .before .before .pre .1 .0 .memo .size)
 
 row-same-length-2 : (t : ℕ) → row-lts.Need-same-length-2 (row-claims t) (row-at t) row.Post Inv-loop μ-loop
-row-same-length-2 t c = c .before .before .transition2 .kept .1 .1 .1 .1 .1 .0 ∙ c .before .before .before .before .before .before .loop .inv .same
+row-same-length-2 t c = c .before .before .add2 .kept .1 .1 .1 .1 .1 .0 ∙ c .before .before .before .before .before .before .loop .inv .same
 
 row-returns-2 : (t : ℕ) → row-lts.Need-returns-2 (row-claims t) (row-at t) row.Post Inv-loop μ-loop
-row-returns-2 t c = rowing-end (c .before .before .before .before .before .before .before .before .before .row-of .ensures) (c .before .before .before .before .before .before .loop .inv) (c .before .before .transition2 .kept .1 .1 .1 .1 .1 .0) (c .before .before .transition2 .ensures) (c .before .before .before .before .if2 .left) (c .before .before .before .before .before .before .before .if1 .left)
+row-returns-2 t c =
+    let add = c .before .before .add2 in
+    let turn = c .before .before .before .before .before .before in
+    let row-of = turn .before .before .before .row-of in
+    rowing-end (row-of .ensures) (turn .loop .inv) (add .kept .1 .1 .1 .1 .1 .0) (rowing-added (turn .loop .inv) (omega (arith, row-of .ensures .near .1)) (add .ensures)) (c .before .before .before .before .if2 .left) (turn .before .if1 .left)
 
 abbrev Inv-walk : rows-lts.InvT-loop
 Inv-walk index first role initial memo₀ moves₀ at₀ k₀ memo moves at k = Walking index role initial first at₀ moves₀ k at memo moves
@@ -246,15 +249,18 @@ pub +fragment+row+rows-spec : {M : Type 1} → statement M
     close μ-fragment μ-row μ-rows
     (λ t. fragment-lts.spec (fragment-claims t) (fragment-at t) fragment.Post
     (λ c. over-laid (c .before .before .before .before .pre .1) (c .if1 .taken))
-    (λ c κs. let pre = c .before .before .before .before .before .pre in omega (arith, pre .1 .role, pre .1 .memo .size))
+    (λ c. search needs)
+    (λ c. let pre = c .before .before .before .before .before .pre in omega (arith, pre .1 .role, pre .1 .memo .size))
     (fragment-again-requires t)
     (λ c. search needs)
     (λ c. search needs)
     (fragment-returns-2 t)
-    (fragment-letters-requires t)
-    (fragment-first-of-requires t)
+    (λ c κs. let pre = c .before .before .before .before .before .before .pre in ((pre .1 .rules, pre .1 .index), pre .1 .role, omega arith))
+    (λ c κs. let pre = c .before .before .before .before .before .before .before .pre in ((pre .1 .rules, pre .1 .index), pre .1 .role, omega arith))
+    (λ c κs. search needs)
+    (λ c κs. let pre = c .before .before .before .before .before .before .before .before .before .before .before .before .pre in (pre .1 .role, pre .1 .index .size))
     (fragment-rows-requires t)
-    (fragment-first-mirror-requires t)
+    (λ c κs. search needs)
     (λ c κs. search needs)
     (fragment-rows-requires-2 t)
     (fragment-keep-requires t)
@@ -265,14 +271,14 @@ pub +fragment+row+rows-spec : {M : Type 1} → statement M
     (row-row-of-requires t)
     (row-returns t)
     (λ c. rowing-start (c .before .before .row-of .ensures) (c .before .before .before .before .before .before .pre .1 .0))
-    (row-transition-requires t)
+    (λ c κs. search needs)
     (row-inner-role-requires t)
     (row-fragment-requires t)
     (row-add-reached t)
     (row-add-j t)
     (row-loop-less t)
     (row-loop-again t)
-    (row-transition-requires-2 t)
+    (λ c κs. search needs)
     (row-same-length t)
     (row-same-length-2 t)
     (row-returns-2 t))

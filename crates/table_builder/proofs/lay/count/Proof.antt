@@ -9,5 +9,5 @@ count-spec =
     (tie.spec
     (λ c. search needs)
     (λ c. search needs)
-    (λ c κs. (λ _. c .before .before .before .pre .0, c .before .before .before .pre .1))
+    (λ c κs. c .before .before .before .pre)
     (λ c. λ ρs i fuel e. c .before .before .roots .ensures .roots ρs i fuel e .counted))

@@ -18,13 +18,13 @@ cast-inverse c =
 returns : tie.Need-returns
 returns c =
     let pre = c .before .before .before .before .before .pre in
-    inner-mirrored (pre .1 .1) _ (pre .0) _ (c .before .before .before .if1 .taken) (c .inverse .ensures ∙ ap inv (c .before .number .ensures .0))
+    inner-mirrored (pre .1 .1) (pre .0) (c .before .before .before .if1 .taken) (c .inverse .ensures ∙ ap inv (c .before .number .ensures .0))
 
 cast-result : tie.Need-cast-result
 cast-result c = omega (arith, c .number2 .ensures .0, c .before .before .before .pre .1 .1 .roles (c .before .before .before .args .j) (c .before .before .before .pre .0) .0)
 
 returns-2 : tie.Need-returns-2
-returns-2 c = inner-straight (c .before .before .before .pre .1 .1) _ (c .before .before .before .pre .0) _ (c .before .if1 .left) (c .number2 .ensures .0)
+returns-2 c = inner-straight (c .before .before .before .pre .1 .1) (c .before .before .before .pre .0) (c .before .if1 .left) (c .number2 .ensures .0)
 
 pub inner-role-spec : {M : Type 1} → statement M
 inner-role-spec =

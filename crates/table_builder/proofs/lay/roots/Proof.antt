@@ -36,7 +36,7 @@ loop-less c = omega (arith, c .before .before .before .before .before .before .b
 loop-again : tie.Need-loop-again Inv-loop μ-loop
 loop-again c =
     let fragment = c .before .before .before .fragment in
-    (rooting-next _ _ _ _ _ _ _ _ (c .before .before .before .before .before .before .before .before .before .before .before .loop .inv .0) (c .before .before .before .before .before .before .before .before .before .before .loop-test .taken) _ (c .before .before .before .before .before .before .before .before .put .ensures) _ _ (fragment .ensures .small) (fragment .kept .1 .1 .1 .1 .0) (fragment .ensures .laid), fragment .ensures .memo)
+    (rooting-next (c .before .before .before .before .before .before .before .before .before .before .before .loop .inv .0) (c .before .before .before .before .before .before .before .before .before .before .loop-test .taken) (c .before .before .before .before .before .before .before .before .put .ensures) (fragment .ensures .small) (fragment .kept .1 .1 .1 .1 .0) (fragment .ensures .laid), fragment .ensures .memo)
 
 pub roots-spec : {M : Type 1} → statement M
 roots-spec =
@@ -44,7 +44,7 @@ roots-spec =
     (tie.spec
     Inv-loop
     μ-loop
-    (λ c. (rooting-start _ _ _ _, memo-none refl (λ r h. getD-replicate {A = ℕ} 512 r 0 0 (omega arith))))
+    (λ c. (rooting-start, memo-none refl (λ r h. getD-replicate {A = ℕ} 512 r 0 0 (omega arith))))
     (λ c. omega (arith, c .before .before .loop .inv .0 .small .state))
     (λ c κs. search needs)
     mul-fragment
@@ -56,4 +56,4 @@ roots-spec =
     loop-again
     (λ c. c .before .loop .inv .0 .heads)
     (λ c. c .before .loop .inv .0 .moves)
-    (λ c. rooting-end _ _ _ _ _ _ _ _ (c .before .loop .inv .0) (c .loop-test .left)))
+    (λ c. rooting-end (c .before .loop .inv .0) (c .loop-test .left)))

@@ -9,7 +9,7 @@ use Rattle.table_builder.proofs.lay.row_of.Tie as tie
 returns : tie.Need-returns
 returns c =
     let pre = c .before .before .before .before .before .before .pre in
-    found-straight (pre .0 .1) _ _ _ (pre .1) (pre .2) (pre .3) _ _ _ (c .before .before .before .before .number .ensures .0) (c .before .before .before .number2 .ensures .0) (c .before .before .inner-count .ensures) (sym (c .before .number3 .ensures .0) ∙ c .if1 .taken)
+    found-straight (pre .0 .1) _ _ _ (pre .1) (pre .2) (pre .3) (c .before .before .before .before .number .ensures .0) (c .before .before .before .number2 .ensures .0) (c .before .before .inner-count .ensures) (sym (c .before .number3 .ensures .0) ∙ c .if1 .taken)
 
 sub-t10 : tie.Need-sub-t10
 sub-t10 c =
@@ -26,7 +26,7 @@ sub-t16 c =
 returns-2 : tie.Need-returns-2
 returns-2 c =
     let pre = c .before .before .before .before .before .before .pre in
-    found-mirrored (pre .0 .1) _ _ _ (pre .1) (pre .2) (pre .3) _ _ _ (c .before .before .before .before .number .ensures .0) (c .before .before .before .number2 .ensures .0) (c .before .before .inner-count .ensures) (λ e. c .if1 .left (c .before .number3 .ensures .0 ∙ e))
+    found-mirrored (pre .0 .1) _ _ _ (pre .1) (pre .2) (pre .3) (c .before .before .before .before .number .ensures .0) (c .before .before .before .number2 .ensures .0) (c .before .before .inner-count .ensures) (λ e. c .if1 .left (c .before .number3 .ensures .0 ∙ e))
 
 pub row-of-spec : {M : Type 1} → statement M
 row-of-spec =

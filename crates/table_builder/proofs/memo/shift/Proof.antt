@@ -32,17 +32,17 @@ number-requires c κs = omega (arith, c .before .loop-test .taken, c .before .be
 add-begins : tie.Need-add-begins Inv-loop μ-loop
 add-begins c =
     let entry = c .before .before .before .before .before in
-    omega (arith, c .number .ensures .0, shifting-near _ _ _ _ _ _ _ (c .before .before .before .loop .inv) (entry .pre .0 .0) (c .before .before .loop-test .taken) (entry .pre .1) .0)
+    omega (arith, c .number .ensures .0, shifting-near (c .before .before .before .loop .inv) (entry .pre .0 .0) (c .before .before .loop-test .taken) (entry .pre .1) .0)
 
 add-ends : tie.Need-add-ends Inv-loop μ-loop
 add-ends c =
     let entry = c .before .before .before .before .before .before .before .before in
-    omega (arith, c .number2 .ensures .0, shifting-near _ _ _ _ _ _ _ (c .before .before .before .before .before .before .loop .inv) (entry .pre .0 .0) (c .before .before .before .before .before .loop-test .taken) (entry .pre .1) .1)
+    omega (arith, c .number2 .ensures .0, shifting-near (c .before .before .before .before .before .before .loop .inv) (entry .pre .0 .0) (c .before .before .before .before .before .loop-test .taken) (entry .pre .1) .1)
 
 cast-moves : tie.Need-cast-moves Inv-loop μ-loop
 cast-moves c =
     let entry = c .before .before .before .before .before .before .before .before in
-    omega (arith, c .before .before .before .number .ensures .0, shifting-near _ _ _ _ _ _ _ (c .before .before .before .before .before .before .loop .inv) (entry .pre .0 .0) (c .before .before .before .before .before .loop-test .taken) (entry .pre .1) .0)
+    omega (arith, c .before .before .before .number .ensures .0, shifting-near (c .before .before .before .before .before .before .loop .inv) (entry .pre .0 .0) (c .before .before .before .before .before .loop-test .taken) (entry .pre .1) .0)
 
 slice-write-moves-2 : tie.Need-slice-write-moves-2 Inv-loop μ-loop
 slice-write-moves-2 c = simp length-set (omega (arith, c .before .before .before .before .before .loop-test .taken, c .before .before .before .before .before .before .before .before .pre .0 .1, c .before .before .before .before .before .before .loop .inv .same))
@@ -50,17 +50,17 @@ slice-write-moves-2 c = simp length-set (omega (arith, c .before .before .before
 cast-moves-2 : tie.Need-cast-moves-2 Inv-loop μ-loop
 cast-moves-2 c =
     let entry = c .before .before .before .before .before .before .before .before in
-    omega (arith, c .number2 .ensures .0, shifting-near _ _ _ _ _ _ _ (c .before .before .before .before .before .before .loop .inv) (entry .pre .0 .0) (c .before .before .before .before .before .loop-test .taken) (entry .pre .1) .1)
+    omega (arith, c .number2 .ensures .0, shifting-near (c .before .before .before .before .before .before .loop .inv) (entry .pre .0 .0) (c .before .before .before .before .before .loop-test .taken) (entry .pre .1) .1)
 
 slice-write-moves-3 : tie.Need-slice-write-moves-3 Inv-loop μ-loop
 slice-write-moves-3 c = simp length-set (omega (arith, c .before .before .before .before .before .loop-test .taken, c .before .before .before .before .before .before .before .before .pre .0 .1, c .before .before .before .before .before .before .loop .inv .same))
 
 loop-again : tie.Need-loop-again Inv-loop μ-loop
 loop-again c =
-    shifting-next _ _ _ _ _ _ _ (c .before .before .before .before .before .before .loop .inv) (c .before .before .before .before .before .before .before .before .pre .0 .0) (c .before .before .before .before .before .loop-test .taken) _ _ _ (omega (arith, c .before .before .before .number .ensures .0)) refl (omega (arith, c .number2 .ensures .0))
+    shifting-next (c .before .before .before .before .before .before .loop .inv) (c .before .before .before .before .before .before .before .before .pre .0 .0) (c .before .before .before .before .before .loop-test .taken) (omega (arith, c .before .before .before .number .ensures .0)) refl (omega (arith, c .number2 .ensures .0))
 
 returns : tie.Need-returns Inv-loop μ-loop
-returns c = shifting-end _ _ _ _ _ _ _ (c .before .loop .inv) (c .loop-test .left)
+returns c = shifting-end (c .before .loop .inv) (c .loop-test .left)
 
 pub shift-spec : {M : Type 1} → statement M
 shift-spec =
@@ -68,7 +68,7 @@ shift-spec =
     (tie.spec
     Inv-loop
     μ-loop
-    (λ c. shifting-start _ _ _ _ _)
+    (λ c. shifting-start)
     add-from
     mul-from
     add-to
