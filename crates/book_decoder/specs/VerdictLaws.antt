@@ -16,24 +16,24 @@ use Rattle.book_header.specs.declared.Header.{Header}
 use Rattle.book_decoder.specs.Verdict.{header-of}
 
 -- whether a book has a rule k, by what the verdict says
-pub has-rule-header : (r : Result Book) (k : ℕ) (h : Header) → ok h ≡ map-result header-of r → has-rule r k ≡ ltb k (h .rules)
+pub has-rule-header : (r : Result Book) (k : ℕ) {h : Header} → ok h ≡ map-result header-of r → has-rule r k ≡ ltb k (h .rules)
 unfolding has-rule
-has-rule-header (refused c v) k h e = absurd (let z : _≡_ {A = ℕ} 0 1 = cc in let f : ⊥ = omega arith in f)
-has-rule-header (ok b) k h e = let p : h ≡ header-of b = cc in rw p refl
+has-rule-header (refused c v) k e = absurd (let z : _≡_ {A = ℕ} 0 1 = cc in let f : ⊥ = omega arith in f)
+has-rule-header (ok b) k {h} e = let p : h ≡ header-of b = cc in rw p refl
 
-pub has-rule-refused : (r : Result Book) (k c v : ℕ) → refused c v ≡ map-result header-of r → has-rule r k ≡ false
+pub has-rule-refused : (r : Result Book) (k : ℕ) {c v : ℕ} → refused c v ≡ map-result header-of r → has-rule r k ≡ false
 unfolding has-rule
-has-rule-refused (refused c′ v′) k c v e = refl
-has-rule-refused (ok b) k c v e = absurd (let z : _≡_ {A = ℕ} 0 1 = cc in let f : ⊥ = omega arith in f)
+has-rule-refused (refused c′ v′) k e = refl
+has-rule-refused (ok b) k e = absurd (let z : _≡_ {A = ℕ} 0 1 = cc in let f : ⊥ = omega arith in f)
 
 -- a book that passes causes 1 to 6, by its header
 pub record Headed (s : List ℕ) (h : Header) : Type 0 where
   pub whole : (k : ℕ) → k < h .rules → whole-at s (rule-place s k) ≡ true
   pub reads : read s ≡ distinct (h .names) [] (first-rules s (h .rules))
 
-pub headed : (s : List ℕ) (h : Header) → map-result header-of (decode s) ≡ ok h → Headed s h
+pub headed : {s : List ℕ} {h : Header} → map-result header-of (decode s) ≡ ok h → Headed s h
 unfolding read
-headed s h e = by-result (decode s) refl e
+headed {s} {h} e = by-result (decode s) refl e
   where
     by-result : (r : Result Book) → decode s ≡ r → map-result header-of r ≡ ok h → Headed s h
     by-result (refused c v) q e = absurd (let z : _≡_ {A = ℕ} 0 1 = cc in let f : ⊥ = omega arith in f)
@@ -47,9 +47,9 @@ headed s h e = by-result (decode s) refl e
         }
 
 -- what causes 1 to 6 refuse is refused so
-pub read-refused : (s : List ℕ) (c v : ℕ) → refused c v ≡ map-result header-of (decode s) → refused c v ≡ map-result header-of (read s)
+pub read-refused : (s : List ℕ) {c v : ℕ} → refused c v ≡ map-result header-of (decode s) → refused c v ≡ map-result header-of (read s)
 unfolding read
-read-refused s c v e = by-result (decode s) e
+read-refused s {c} {v} e = by-result (decode s) e
   where
     by-result : (r : Result Book) → refused c v ≡ map-result header-of r
         → refused c v ≡ map-result header-of (and-then r (λ b. distinct (b .names) [] (b .rules)))

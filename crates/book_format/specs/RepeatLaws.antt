@@ -27,28 +27,29 @@ unfolding first-rules repeats
 repeats-next s ρ k = repeats-append ρ (first-rules s k) (rule-at s (rule-place s k) ∷ []) ∙ rw or-false refl
 
 -- the search for the lowest repeat, as a loop runs it: the whole search is the one from rule k on, after the rules before it
-abbrev pub Searching : List ℕ → (names count k : ℕ) → Type 0
-Searching s n count k = distinct n [] (first-rules s count) ≡ distinct n (first-rules s k) (drop k (first-rules s count))
+pub record Searching (s : List ℕ) (n count k : ℕ) : Type 0 where
+  pub rest : distinct n [] (first-rules s count) ≡ distinct n (first-rules s k) (drop k (first-rules s count))
 
-module _ (s : List ℕ) (n count : ℕ) where
+module _ {s : List ℕ} {n count : ℕ} where
   pub searching-start : Searching s n count 0
   unfolding first-rules
-  searching-start = refl
+  searching-start = record { rest = refl }
 
-  pub searching-end : (k : ℕ) → k ≡ count → Searching s n count k → distinct n [] (first-rules s count) ≡ ok (record { names = n; rules = first-rules s count })
+  pub searching-end : {k : ℕ} → k ≡ count → Searching s n count k
+      → distinct n [] (first-rules s count) ≡ ok (record { names = n; rules = first-rules s count })
   unfolding distinct
-  searching-end k e h = h ∙ rw (e, drop-of-length-le (first-rules s count) {i = count} (rw length-first-rules (omega arith))) refl
+  searching-end e h = h .rest ∙ rw (e, drop-of-length-le (first-rules s count) {i = count} (rw length-first-rules (omega arith))) refl
 
-  module _ (ρ : Rule) (k : ℕ) (e : ρ ≡ rule-at s (rule-place s k)) (p : k < count) (h : Searching s n count k) where
-    rest : drop k (first-rules s count) ≡ rule-at s (rule-place s k) ∷ drop (suc k) (first-rules s count)
-    rest =
+  module _ {ρ : Rule} {k : ℕ} (e : ρ ≡ rule-at s (rule-place s k)) (p : k < count) (h : Searching s n count k) where
+    from-here : drop k (first-rules s count) ≡ rule-at s (rule-place s k) ∷ drop (suc k) (first-rules s count)
+    from-here =
         drop-cons (first-rules s count) k ρ (rw length-first-rules p)
         ∙ ap (λ (σ : Rule). σ ∷ drop (suc k) (first-rules s count)) (getD-first-rules s count k ρ p)
 
     pub searching-next : repeats ρ (first-rules s k) ≡ false → Searching s n count (k + 1)
     unfolding distinct first-rules
-    searching-next r = h ∙ rw (rest, ← e, r, add-one, ← e) refl
+    searching-next r = record { rest = h .rest ∙ rw (from-here, ← e, r, add-one, ← e) refl }
 
     pub searching-found : repeats ρ (first-rules s k) ≡ true → distinct n [] (first-rules s count) ≡ refused 7 k
     unfolding distinct
-    searching-found r = h ∙ rw (rest, ← e, r, length-first-rules s k) refl
+    searching-found r = h .rest ∙ rw (from-here, ← e, r, length-first-rules s k) refl

@@ -24,7 +24,7 @@ entered-none =
     }
 
 -- one more key enters
-module _ (keys index : List ℕ) (count x : ℕ) (so-far : Entered keys index count) (space : count < 256) where
+module _ {keys index : List ℕ} {count : ℕ} (x : ℕ) (so-far : Entered keys index count) (space : count < 256) where
   own-bucket : bucket (set keys count x) count ≡ x % 251
   own-bucket = ap (λ (n : ℕ). n % 251) (getD-set-same keys count x 0 (omega (arith, so-far .places)))
 
@@ -67,7 +67,7 @@ pub record Walked (keys : List ℕ) (count x at : ℕ) : Type 0 where
   pub own : 0 < at → bucket keys (at - 1) ≡ x % 251
   pub passed : (k : ℕ) → at ≤ k → k < count → getD keys k 0 ≡ x → ⊥
 
-module _ (keys index : List ℕ) (count x : ℕ) (entered : Entered keys index count) where
+module _ {keys index : List ℕ} {count x : ℕ} (entered : Entered keys index count) where
   pub walked-start : Walked keys count x (getD index (x % 251) 0)
   walked-start =
       let here : Latest (bucket keys) (x % 251) count (getD index (x % 251) 0) = entered .linked .last (x % 251) (omega arith) in
@@ -77,7 +77,7 @@ module _ (keys index : List ℕ) (count x : ℕ) (entered : Entered keys index c
         passed = λ k l i e. here .none-later k l i (ap (λ (n : ℕ). n % 251) e);
       }
 
-  module _ (at : ℕ) (so-far : Walked keys count x at) (some : 0 < at) where
+  module _ {at : ℕ} (so-far : Walked keys count x at) (some : 0 < at) where
     pub walked-less : getD index (256 + (at - 1)) 0 < at
     walked-less = next-less (bucket keys) 256 index count (entered .linked) (x % 251) at (so-far .low) (so-far .own) some
 
@@ -100,5 +100,5 @@ module _ (keys index : List ℕ) (count x : ℕ) (entered : Entered keys index c
     pub walked-found : getD keys (at - 1) 0 ≡ x → among keys count x ≡ true
     walked-found = among-found keys x count (at - 1) (omega (arith, so-far .low))
 
-  pub walked-end : (at : ℕ) → at ≡ 0 → Walked keys count x at → among keys count x ≡ false
-  walked-end at e h = among-none keys x count (λ k l. h .passed k (omega arith) l)
+  pub walked-end : {at : ℕ} → at ≡ 0 → Walked keys count x at → among keys count x ≡ false
+  walked-end e h = among-none keys x count (λ k l. h .passed k (omega arith) l)

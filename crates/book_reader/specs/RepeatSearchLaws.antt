@@ -46,31 +46,31 @@ pub record Searched (s : List ℕ) (h : Header) (keys index : List ℕ) (k : ℕ
   pub entered : Entered keys index k
   pub keyed : Keyed s keys k
 
-module _ (s : List ℕ) (h : Header) where
+module _ {s : List ℕ} {h : Header} where
   pub searched-start : Searched s h (replicate 256 0) (replicate 512 0) 0
   searched-start =
       record {
-        searching = searching-start s (h .names) (h .rules);
+        searching = searching-start;
         entered = entered-none;
         keyed = λ k l. absurd (omega arith);
       }
 
   -- at rule k, which is ρ and has the key x
-  module _ (bounds : Bounded s h) (keys index : List ℕ) (k : ℕ) (so-far : Searched s h keys index k) (inside : k < h .rules) (ρ : Rule)
-      (e : ρ ≡ rule-at s (rule-place s k)) (x : ℕ) (own : x ≡ key ρ) where
+  module _ (bounds : Bounded s h) {keys index : List ℕ} {k : ℕ} (so-far : Searched s h keys index k) (inside : k < h .rules) {ρ : Rule}
+      (e : ρ ≡ rule-at s (rule-place s k)) {x : ℕ} (own : x ≡ key ρ) where
     repeated : among keys k x ≡ repeats ρ (first-rules s k)
     repeated =
         rw own
         (among-repeats s keys ρ k (rw e (bounds .short k inside)) (λ j l. bounds .short j (omega arith)) (so-far .keyed))
 
     pub searched-found : among keys k x ≡ true → distinct (h .names) [] (first-rules s (h .rules)) ≡ refused 7 k
-    searched-found t = searching-found s (h .names) (h .rules) ρ k e inside (so-far .searching) (sym repeated ∙ t)
+    searched-found t = searching-found e inside (so-far .searching) (sym repeated ∙ t)
 
-    pub searched-next : among keys k x ≡ false → (keys′ index′ : List ℕ) → keys′ ≡ set keys k x → Entered keys′ index′ (k + 1)
+    pub searched-next : among keys k x ≡ false → {keys′ index′ : List ℕ} → keys′ ≡ set keys k x → Entered keys′ index′ (k + 1)
         → Searched s h keys′ index′ (k + 1)
-    searched-next t keys′ index′ stored entered =
+    searched-next t stored entered =
         record {
-          searching = searching-next s (h .names) (h .rules) ρ k e inside (so-far .searching) (sym repeated ∙ t);
+          searching = searching-next e inside (so-far .searching) (sym repeated ∙ t);
           entered = entered;
           keyed =
               rw stored

@@ -46,8 +46,8 @@ pub record Bounded (s : List ℕ) (h : Header) : Type 0 where
   pub few : h .rules ≤ 256
   pub short : (k : ℕ) → k < h .rules → Short (rule-at s (rule-place s k))
 
-pub bounded : (s : List ℕ) (h : Header) → map-result header-of (decode s) ≡ ok h → Bounded s h
-bounded s h e = by-result (decode s) refl e
+pub bounded : {s : List ℕ} {h : Header} → map-result header-of (decode s) ≡ ok h → Bounded s h
+bounded {s} {h} e = by-result (decode s) refl e
   where
     by-result : (r : Result Book) → decode s ≡ r → map-result header-of r ≡ ok h → Bounded s h
     by-result (refused c v) q e = absurd (let z : _≡_ {A = ℕ} 0 1 = cc in let f : ⊥ = omega arith in f)

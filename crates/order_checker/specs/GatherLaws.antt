@@ -2,11 +2,10 @@
 use mathlib.Core.Bool.{Bool, true, false}
 use mathlib.Core.List.{List, _∷_}
 use mathlib.Core.Path.{_≡_, refl, sym, ap, _∙_}
-use Prim.Native.Nat.{ℕ, _+_, _-_, _<_, _≤_}
+use Prim.Native.Nat.{ℕ, _+_, _<_, _≤_}
 use native.Mathlib.Omega.{arith}
-use lib.ListN.{length, take, drop}
+use lib.ListN.{length}
 use Rattle.roles.specs.Rule.{Rule, Book}
-use Rattle.roles.specs.RuleLaws.{rule-path}
 use Rattle.order.specs.Closure.{no-order, with-rule, clashes}
 use Rattle.name_sets.specs.Mask.{Holds}
 use Rattle.base.specs.Result.{Result, map-result}
@@ -18,11 +17,7 @@ use Rattle.book_format.specs.DecodeLaws.{decoded}
 use Rattle.book_format.specs.ReadLaws.{read-decode, read-whole, read-rule, read-some, read-few-names}
 use Rattle.book_causes.specs.Ordered.{ordered}
 use Rattle.book_causes.specs.OrderedRun.{Gathering, gathering-start, gathering-next, gathering-clash, gathering-end, gathering-closed, ordered-from, ordered-read}
-use Rattle.book_cursor.specs.declared.Cursor.{Cursor}
-use Rattle.book_cursor.specs.declared.Entry.{Entry}
 use Rattle.book_header.specs.declared.Header.{Header}
-use Rattle.book_cursor.specs.Cursor.{entry-rule}
-use Rattle.book_cursor.specs.CursorLaws.{AtRule, entry-part}
 use Rattle.book_decoder.specs.Verdict.{header-of}
 use Rattle.order_checker.specs.declared.Gathered.{Gathered}
 use Rattle.order_checker.specs.declared.Gathered.the-variants.{Extends, Clash}
@@ -37,12 +32,6 @@ gathered-extends false r h k = refl
 gathered-clash : (t : Bool) (r : Gathered) → r ≡ gathered t → r ≡ Clash → t ≡ true
 gathered-clash true r h k = refl
 gathered-clash false r h k = absurd (let z : _≡_ {A = ℕ} 0 1 = cc in let f : ⊥ = omega arith in f)
-
--- the rule that the loop hands on is rule k
-pub handed-rule : (s : List ℕ) (k : ℕ) (e : Entry) (next : Cursor) → AtRule s k e next
-    → record { left = take (e .start + e .size - e .start) (drop (e .start) s); right = e .right } ≡ rule-at s (rule-place s k)
-unfolding entry-rule
-handed-rule s k e next a = rule-path _ _ (entry-part s e) refl ∙ a .rule
 
 -- the masks after k rules
 abbrev pub Gathers : List ℕ → List ℕ → ℕ → Type 0

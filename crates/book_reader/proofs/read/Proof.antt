@@ -7,7 +7,7 @@ use Rattle.book_reader.proofs.read.Statement.{statement}
 use Rattle.book_reader.proofs.read.Tie as tie
 
 returns : tie.Need-returns
-returns c = ap says (c .enum-told .given .1) ∙ read-refused _ _ _ (sym (ap says (c .enum-told .given .1)) ∙ c .before .before .decode .ensures)
+returns c = ap says (c .enum-told .given .1) ∙ read-refused _ (sym (ap says (c .enum-told .given .1)) ∙ c .before .before .decode .ensures)
 
 distinct-requires : tie.Need-distinct-requires
 distinct-requires c κs = sym (sym (ap says (c .before .reading .given .1)) ∙ c .before .before .before .decode .ensures)

@@ -3,9 +3,8 @@ use mathlib.Core.Path.{ap, _∙_, _≡_}
 use Prim.Native.Nat.{_≤_, _-_}
 use native.Mathlib.Omega.{arith}
 use borrow.Author.Needs.{needs}
-use Rattle.book_cursor.specs.CursorLaws.{step-rule, some-rule}
+use Rattle.book_cursor.specs.CursorLaws.{Yields, yields}
 use Rattle.book_format.specs.DecodeLaws.{has-rule-whole}
-use Rattle.book_format.specs.FormatLaws.{place-next}
 use Rattle.book_format.specs.Place.{rule-place}
 use Rattle.book_reader.proofs.seek.Statement.{statement}
 use Rattle.book_reader.proofs.seek.Tie as tie
@@ -16,17 +15,21 @@ Inv-loop book rule cursor₀ passed₀ cursor passed = (passed ≤ rule) × (cur
 abbrev μ-loop : tie.MeasureT-loop
 μ-loop book rule cursor₀ passed₀ cursor passed = rule - passed
 
+-- the step of a turn yields rule `passed`
+turn : (c : tie.After-step Inv-loop μ-loop) → Yields (c .before .before .before .before .before .args .book .now) (c .before .before .loop .passed) (c .step .result)
+turn c = yields (c .before .before .loop .inv .1) (c .step .ensures)
+
 loop-holds : tie.Need-loop-holds Inv-loop μ-loop
 unfolding rule-place
 loop-holds c = (omega arith, c .first .ensures)
 
 returns : tie.Need-returns Inv-loop μ-loop
 returns c =
-    let turn = c .before .before .before .before in
-    absurd (some-rule _ _ _ _ (turn .loop .inv .1) (has-rule-whole _ _ (c .before .before .before .before .before .before .before .pre) (turn .loop .passed) (turn .loop .inv .0)) (c .before .before .step .ensures) (c .enum-told .given .1))
+    let at-loop = c .before .before .before .before in
+    absurd (turn (c .before .before) .some (has-rule-whole _ _ (at-loop .before .before .before .pre) _ (at-loop .loop .inv .0)) (c .enum-told .given .1))
 
 loop-again : tie.Need-loop-again Inv-loop μ-loop
-loop-again c = (omega arith, place-next _ _ _ _ (c .before .before .before .before .before .loop .inv .1) (step-rule _ _ _ _ _ (c .before .before .before .step .ensures) (c .before .next .given .1) .place))
+loop-again c = (omega arith, turn (c .before .before .before) .hands (c .before .next .given .1) .place)
 
 returns-2 : tie.Need-returns-2 Inv-loop μ-loop
 returns-2 c =

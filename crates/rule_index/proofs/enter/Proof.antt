@@ -18,19 +18,24 @@ abbrev μ-loop : tie.MeasureT-loop
 
 -- the step of a turn yields rule `k`
 turn : (c : tie.After-step Inv-loop μ-loop) → Yields (c .before .before .before .before .before .before .args .book .now) (c .before .before .loop .k) (c .step .result)
-turn c = yields (c .before .before .before .before .before .before .pre .0 .whole) (c .before .loop-test .taken) (c .before .before .loop .inv .1) (c .step .ensures)
+turn c = yields (c .before .before .loop .inv .1) (c .step .ensures)
 
 handed : (c : tie.After-entry Inv-loop μ-loop) → Hands (c .before .before .before .before .before .before .before .before .args .book .now) (c .before .before .before .before .loop .k) (c .entry .given .0 .0) (c .entry .given .0 .1 .0)
-handed c = turn (c .before .before) .hands _ _ (c .entry .given .1)
+handed c = turn (c .before .before) .hands (c .entry .given .1)
 
 loop-holds : tie.Need-loop-holds Inv-loop μ-loop
 unfolding rule-place
 loop-holds c = (omega arith, c .first .ensures, entering-none (c .before .before .before .pre .1))
 
+returns : tie.Need-returns Inv-loop μ-loop
+returns c =
+    let at-step = c .before .before in
+    absurd (turn at-step .some (at-step .before .before .before .before .before .before .pre .0 .whole _ (at-step .before .loop-test .taken)) (c .enum-told .given .1))
+
 loop-again : tie.Need-loop-again Inv-loop μ-loop
 loop-again c =
     let h = handed (c .before .before .before .before .before .before .before) in
-    (omega arith, h .place, entering-more (omega (arith, c .before .before .before .before .before .before .before .before .before .before .before .before .before .before .before .pre .0 .few)) (h .rule) (c .before .before .before .before .before .before .before .before .before .before .before .loop .inv .2) (c .before .before .enter-rule .ensures))
+    (omega arith, h .place, entering-more (omega (arith, c .before .before .before .before .before .before .before .before .before .before .before .before .before .before .before .pre .0 .few)) (h .part) (c .before .before .before .before .before .before .before .before .before .before .before .loop .inv .2) (c .before .before .enter-rule .ensures))
 
 returns-2 : tie.Need-returns-2 Inv-loop μ-loop
 returns-2 c = let e : c .before .before .before .before .before .args .rules ≡ c .before .loop .k = omega arith in rw e (c .before .loop .inv .2)
@@ -47,7 +52,7 @@ enter-spec =
     (λ c. search needs)
     (λ c. search needs)
     (λ c. c .before .before .before .before .loop .inv .2 .size ∙ sym (c .before .before .before .before .before .before .before .before .pre .1))
-    (λ c. absurd (turn (c .before .before) .some (c .enum-told .given .1)))
+    returns
     (λ c. omega (arith, handed (c .before .before) .fits, c .before .before .before .before .before .before .before .before .before .before .good))
     (λ c. search needs)
     (λ c. search needs)

@@ -4,7 +4,7 @@ use Prim.Native.Nat.{_≤_, _-_}
 use native.Mathlib.Omega.{arith}
 use borrow.Author.Needs.{needs}
 use borrow.Author.Tests.{not-true, not-false}
-use Rattle.book_cursor.specs.CursorLaws.{at-rule, some-rule}
+use Rattle.book_cursor.specs.CursorLaws.{Hands, Yields, yields}
 use Rattle.book_decoder.specs.Verdict.{header-of}
 use Rattle.refusals.specs.Check.{check-passed, check-failed}
 use Rattle.book_decoder.specs.VerdictLaws.{headed}
@@ -23,58 +23,65 @@ Inv-loop book header rules keys₀ index₀ cursor₀ later₀ keys index cursor
 abbrev μ-loop : tie.MeasureT-loop
 μ-loop book header rules keys₀ index₀ cursor₀ later₀ keys index cursor later = rules - later
 
+-- the step of a turn yields rule `later`
+turn : (c : tie.After-step Inv-loop μ-loop) → Yields (c .before .before .before .before .before .args .book .now) (c .before .before .loop .later) (c .step .result)
+turn c = yields (c .before .before .loop .inv .1 .0) (c .step .ensures)
+
+handed : (c : tie.After-entry Inv-loop μ-loop) → Hands (c .before .before .before .before .before .before .before .args .book .now) (c .before .before .before .before .loop .later) (c .entry .given .0 .0) (c .entry .given .0 .1 .0)
+handed c = turn (c .before .before) .hands (c .entry .given .1)
+
 loop-holds : tie.Need-loop-holds Inv-loop μ-loop
 unfolding rule-place
-loop-holds c = (omega arith, (c .first .ensures, searched-start _ _))
+loop-holds c = (omega arith, (c .first .ensures, searched-start))
 
 returns : tie.Need-returns Inv-loop μ-loop
 returns c =
-    let turn = c .before .before .before .before in
-    absurd (some-rule _ _ _ _ (turn .loop .inv .1 .0) (headed _ _ (c .before .before .before .before .before .before .before .pre) .whole (turn .loop .later) (c .before .before .before .loop-test .taken)) (c .before .before .step .ensures) (c .enum-told .given .1))
+    let at-step = c .before .before in
+    absurd (turn at-step .some (headed (at-step .before .before .before .before .before .pre) .whole _ (at-step .before .loop-test .taken)) (c .enum-told .given .1))
 
 key-requires : tie.Need-key-requires Inv-loop μ-loop
 key-requires c κs =
-    let turn = c .before .before .before .before .before in
-    let a = at-rule _ _ _ _ _ _ (turn .loop .inv .1 .0) (c .before .before .before .step .ensures) (c .before .entry .given .1) in
-    (a .fits, rw (a .rule) (bounded _ _ (c .before .before .before .before .before .before .before .before .pre) .short (turn .loop .later) (c .before .before .before .before .loop-test .taken)))
+    let h = handed (c .before) in
+    (h .fits, rw (h .rule) (bounded (c .before .before .before .before .before .before .before .before .pre) .short _ (c .before .before .before .before .loop-test .taken)))
 
 fresh-requires : tie.Need-fresh-requires Inv-loop μ-loop
 fresh-requires c κs = c .before .before .before .before .before .before .before .before .loop .inv .1 .1 .entered
 
 returns-2 : tie.Need-returns-2 Inv-loop μ-loop
 returns-2 c =
-    let turn = c .before .before .before .before .before .before .before .before .before .before .before in
-    let entry = turn .before .before .before in
-    let a = at-rule _ _ _ _ _ _ (turn .loop .inv .1 .0) (c .before .before .before .before .before .before .before .before .before .step .ensures) (c .before .before .before .before .before .before .before .entry .given .1) in
+    let at-entry = c .before .before .before .before .before .before .before in
+    let at-loop = at-entry .before .before .before .before in
+    let entry = at-loop .before .before .before in
     sym
     (ap (map-result header-of)
-    (headed _ _ (entry .pre) .reads
-    ∙ searched-found _ _ (bounded _ _ (entry .pre)) _ _ _ (turn .loop .inv .1 .1) (c .before .before .before .before .before .before .before .before .before .before .loop-test .taken) _ (a .rule) _ (c .before .before .before .before .before .key .ensures) (not-false _ (check-failed _ _ (c .before .before .fresh .ensures) (c .enum-told3 .given .1)))))
+    (headed (entry .pre) .reads
+    ∙ searched-found (bounded (entry .pre)) (at-loop .loop .inv .1 .1) (at-entry .before .before .before .loop-test .taken) (handed at-entry .rule) (c .before .before .before .before .before .key .ensures)
+    (not-false _ (check-failed _ _ (c .before .before .fresh .ensures) (c .enum-told3 .given .1)))))
 
 enter-requires : tie.Need-enter-requires Inv-loop μ-loop
 enter-requires c κs =
-    let entry = c .before .before .before .before .before .before .before .before .before .before .before .before .before .before .before .before in
-    (c .before .before .before .before .before .before .before .before .before .before .before .before .before .loop .inv .1 .1 .entered, omega (arith, bounded (entry .args .book .now) (entry .args .header) (entry .pre) .few))
+    let at-loop = c .before .before .before .before .before .before .before .before .before .before .before .before .before in
+    (at-loop .loop .inv .1 .1 .entered, omega (arith, bounded (at-loop .before .before .before .pre) .few))
 
 loop-again : tie.Need-loop-again Inv-loop μ-loop
 loop-again c =
-    let turn = c .before .before .before .before .before .before .before .before .before .before .before .before .before .before .before .before in
-    let a = at-rule _ _ _ _ _ _ (turn .loop .inv .1 .0) (c .before .before .before .before .before .before .before .before .before .before .before .before .before .before .step .ensures) (c .before .before .before .before .before .before .before .before .before .before .before .before .entry .given .1) in (
+    let at-fresh = c .before .before .before .before .before .before .before in
+    let at-entry = at-fresh .before .before .before .before .before in
+    let at-loop = at-entry .before .before .before .before in
+    let h = handed at-entry in (
       omega arith,
       (
-        a .place,
-        searched-next _ _ (bounded _ _ (c .before .before .before .before .before .before .before .before .before .before .before .before .before .before .before .before .before .before .before .pre)) _ _ _ (turn .loop .inv .1 .1) (c .before .before .before .before .before .before .before .before .before .before .before .before .before .before .before .loop-test .taken) _ (a .rule) _ (c .before .before .before .before .before .before .before .before .before .before .key .ensures) (not-true _ (check-passed _ _ (c .before .before .before .before .before .before .before .fresh .ensures) (c .before .before .before .before .before .enum-told2 .given .1))) _ _ (c .before .before .enter .ensures .0) (c .before .before .enter .ensures .1),
+        h .place,
+        searched-next (bounded (at-loop .before .before .before .pre)) (at-loop .loop .inv .1 .1) (at-entry .before .before .before .loop-test .taken) (h .rule) (at-fresh .before .before .before .key .ensures)
+            (not-true _ (check-passed _ _ (at-fresh .fresh .ensures) (c .before .before .before .before .before .enum-told2 .given .1))) (c .before .before .enter .ensures .0) (c .before .before .enter .ensures .1),
       ),
     )
 
 returns-3 : tie.Need-returns-3 Inv-loop μ-loop
 returns-3 c =
     let entry = c .before .before .before .before in
-    sym
-    (ap (map-result header-of)
-    (headed _ _ (entry .pre) .reads
-    ∙ searching-end _ _ _ _ (let e : c .before .loop .later ≡ entry .args .header .rules = omega arith in e) (c .before .loop .inv .1 .1 .searching))
-    ∙ rw length-first-rules refl)
+    let all : c .before .loop .later ≡ entry .args .header .rules = omega arith in
+    sym (ap (map-result header-of) (headed (entry .pre) .reads ∙ searching-end all (c .before .loop .inv .1 .1 .searching)) ∙ rw length-first-rules refl)
 
 pub distinct-spec : {M : Type 1} → statement M
 distinct-spec =

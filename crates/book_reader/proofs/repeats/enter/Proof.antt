@@ -8,7 +8,7 @@ use Rattle.book_reader.proofs.repeats.enter.Statement.{statement}
 use Rattle.book_reader.proofs.repeats.enter.Tie as tie
 
 returns : tie.Need-returns
-returns c = (refl, entered-more _ _ _ _ (c .before .pre .0) (c .before .pre .1))
+returns c = (refl, entered-more _ (c .before .pre .0) (c .before .pre .1))
 
 pub enter-spec : {M : Type 1} → statement M
 enter-spec =

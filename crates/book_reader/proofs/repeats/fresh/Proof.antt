@@ -27,7 +27,7 @@ shared-slice-read-if1 c =
     omega (arith, c .before .before .loop .inv .low, entry .pre .linked .space, entry .pre .entries, entry .pre .places)
 
 returns : tie.Need-returns Inv-loop μ-loop
-returns c = ap (λ (t : Bool). check (not t)) (sym (walked-found _ _ _ _ (c .before .before .before .before .before .pre) _ (c .before .before .before .loop .inv) (c .before .before .loop-test .taken) (c .if1 .taken)))
+returns c = ap (λ (t : Bool). check (not t)) (sym (walked-found (c .before .before .before .before .before .pre) (c .before .before .before .loop .inv) (c .before .before .loop-test .taken) (c .if1 .taken)))
 
 add-at : tie.Need-add-at Inv-loop μ-loop
 add-at c =
@@ -48,13 +48,13 @@ cast-at-2 : tie.Need-cast-at-2 Inv-loop μ-loop
 cast-at-2 c = omega (arith, c .shared-slice-known3 .given (256 + (c .before .before .before .before .loop .at - 1)))
 
 loop-less : tie.Need-loop-less Inv-loop μ-loop
-loop-less c = walked-less _ _ _ _ (c .before .before .before .before .before .before .pre) _ (c .before .before .before .before .loop .inv) (c .before .before .before .loop-test .taken)
+loop-less c = walked-less (c .before .before .before .before .before .before .pre) (c .before .before .before .before .loop .inv) (c .before .before .before .loop-test .taken)
 
 loop-again : tie.Need-loop-again Inv-loop μ-loop
-loop-again c = walked-next _ _ _ _ (c .before .before .before .before .before .before .pre) _ (c .before .before .before .before .loop .inv) (c .before .before .before .loop-test .taken) (c .before .if1 .left)
+loop-again c = walked-next (c .before .before .before .before .before .before .pre) (c .before .before .before .before .loop .inv) (c .before .before .before .loop-test .taken) (c .before .if1 .left)
 
 returns-2 : tie.Need-returns-2 Inv-loop μ-loop
-returns-2 c = let e : c .before .loop .at ≡ 0 = omega arith in ap (λ (t : Bool). check (not t)) (sym (walked-end _ _ _ _ (c .before .before .before .pre) _ e (c .before .loop .inv)))
+returns-2 c = let e : c .before .loop .at ≡ 0 = omega arith in ap (λ (t : Bool). check (not t)) (sym (walked-end (c .before .before .before .pre) e (c .before .loop .inv)))
 
 pub fresh-spec : {M : Type 1} → statement M
 fresh-spec =
@@ -65,7 +65,7 @@ fresh-spec =
     (λ c. search needs)
     (λ c. search needs)
     cast-at
-    (λ c. walked-start _ _ _ _ (c .before .pre))
+    (λ c. walked-start (c .before .pre))
     (λ c. search needs)
     mul-if1
     shared-slice-read-if1
