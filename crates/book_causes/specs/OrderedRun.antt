@@ -77,8 +77,8 @@ ordered-read s b h = by-result (read s) (sym (ordered-then s) ∙ h)
     by-result (ok d) e = ap ok (order-keeps d no-order 0 (d .rules) b e)
 
 -- what causes 1 to 7 refuse is refused so
-pub ordered-refused : {A : Type 0} (f : Book → A) (s : List ℕ) (c v : ℕ) → refused c v ≡ map-result f (read s) → ordered s ≡ refused c v
-ordered-refused f s c v h = ordered-then s ∙ by-result (read s) h
+pub ordered-refused : {A : Type 0} (f : Book → A) (s : List ℕ) {c v : ℕ} → refused c v ≡ map-result f (read s) → ordered s ≡ refused c v
+ordered-refused f s {c} {v} h = ordered-then s ∙ by-result (read s) h
   where
     by-result : (r : Result Book) → refused c v ≡ map-result f r → and-then r order-book ≡ refused c v
     by-result (refused c′ v′) e = cc

@@ -17,90 +17,108 @@ use Rattle.name_sets.specs.MaskLaws.{has-or}
 use Rattle.order_masks.specs.AbsorbLaws.{holds-empty}
 use Rattle.rule_shapes.specs.declared.Row.{Row as Inner}
 use Rattle.rule_shapes.specs.declared.Shape.{Shape}
-use Rattle.rule_shapes.specs.declared.Shape.the-variants.{Transitive, Symmetric, Row}
-use Rattle.order_checker.specs.declared.Gathered.{Gathered}
+use Rattle.rule_shapes.specs.declared.Shape.the-variants.{Symmetric, Row}
+use Rattle.rule_shapes.specs.declared.Shape.the-variants.{Transitive as Transitive-rule}
 use Rattle.order_checker.specs.declared.Gathered.the-variants.{Extends, Clash}
 use Rattle.rule_shapes.specs.FoundShape.{shape-found, shape-in, Within}
 use Rattle.rule_shapes.specs.FoundShapeLaws.{found-shape, found-within}
-use Rattle.order_checker.specs.Gather.{gathered}
-use Rattle.order_checker.specs.Gather as Gather
+use Rattle.order_checker.specs.Gather.{Transitive, Added}
+
+-- a mask holds what the inner roles of a rule reach, and a name below 64 is its right one
+pub record Reached (ρ : Rule) (masks : List ℕ) (mask over : ℕ) : Type 0 where
+  pub reach : (lower : ℕ → ℕ → Bool) → Holds masks lower → (y : ℕ) → y < 64 → has mask y ≡ reaches lower (inner-of (Order.shape ρ)) y
+  pub right : over ≡ name (ρ .right)
+  pub small : over < 64
 
 -- the inner roles of a rule by the shape that the code finds: none, or the part that a row names
-module _ (w : Chain) (r : ℕ) (sh : Shape) (d : sh ≡ shape-found w r) where
+module _ (w : Chain) (r : ℕ) {sh : Shape} (d : sh ≡ shape-found w r) where
   pub no-inner : ((row : Inner) → sh ≡ Row row → ⊥) → inner-of (Order.shape (record { left = w; right = r })) ≡ []
   no-inner h = ap inner-of (sym (found-shape w r sh d)) ∙ by-shape sh h
     where
       by-shape : (sh : Shape) → ((row : Inner) → sh ≡ Row row → ⊥) → inner-of (shape-in w sh) ≡ []
-      by-shape Transitive n = refl
+      by-shape Transitive-rule n = refl
       by-shape Symmetric n = refl
       by-shape (Row row) n = absurd (n row refl)
 
-  module _ (row : Inner) (e : sh ≡ Row row) where
+  module _ {row : Inner} (e : sh ≡ Row row) where
     pub row-within : row .start + row .size ≤ length w
     row-within = subst (Within w) e (found-within w r sh d)
 
-    pub row-inner : inner-of (Order.shape (record { left = w; right = r })) ≡ take (row .start + row .size - row .start) (drop (row .start) w)
+    row-inner : take (row .start + row .size - row .start) (drop (row .start) w) ≡ inner-of (Order.shape (record { left = w; right = r }))
     row-inner =
-        ap inner-of (sym (found-shape w r sh d) ∙ ap (shape-in w) e)
-        ∙ ap (λ (k : ℕ). take k (drop (row .start) w)) (sym (add-sub-cancel-left (row .start) (row .size)))
+        ap (λ (k : ℕ). take k (drop (row .start) w)) (add-sub-cancel-left (row .start) (row .size))
+        ∙ ap inner-of (sym (ap (shape-in w) e) ∙ found-shape w r sh d)
 
--- what adding the rule answers, and the masks that it leaves
-module _ (ρ : Rule) (masks : List ℕ) where
-  abbrev pub Added : Gathered → List ℕ → Type 0
-  Added answer new =
-      (lower : ℕ → ℕ → Bool) → Gather.Transitive lower → Holds masks lower
-      → (answer ≡ gathered (clashes lower ρ)) × (clashes lower ρ ≡ false → Holds new (with-rule lower ρ))
+    pub row-reached : {masks : List ℕ} {mask over : ℕ}
+        → ((lower : ℕ → ℕ → Bool) → Holds masks lower → (y : ℕ) → y < 64
+        → has mask y ≡ reaches lower (take (row .start + row .size - row .start) (drop (row .start) w)) y)
+        → over ≡ name r → over < 64 → Reached (record { left = w; right = r }) masks mask over
+    row-reached h o s =
+        record { reach = λ lower k y p. h lower k y p ∙ ap (λ (v : Chain). reaches lower v y) row-inner; right = o; small = s }
 
-  with-inner-rule : (lower : ℕ → ℕ → Bool) (new : List ℕ) (inner : Chain) → inner-of (Order.shape ρ) ≡ inner
-      → Holds new (with-inner lower (name (ρ .right)) inner) → Holds new (with-rule lower ρ)
-  with-inner-rule lower new inner e h = subst (λ (v : Chain). Holds new (with-inner lower (name (ρ .right)) v)) (sym e) h
+-- what adding a rule answers, and the masks that it leaves: there are no inner roles
+pub added-none : {ρ : Rule} {masks : List ℕ} → inner-of (Order.shape ρ) ≡ [] → Added ρ masks Extends masks
+unfolding reaches
+added-none {ρ} {masks} e =
+    record {
+      answer = λ lower t h. rw e refl;
+      leaves =
+          λ lower t h f.
+          subst (λ (v : Chain). Holds masks (with-inner lower (name (ρ .right)) v)) (sym e) (holds-empty masks lower (name (ρ .right)) h);
+    }
 
-  pub added-none : inner-of (Order.shape ρ) ≡ [] → Added Extends masks
-  unfolding reaches
-  added-none e lower t h = (rw e refl, λ _. with-inner-rule lower masks [] e (holds-empty masks lower (name (ρ .right)) h))
+-- there are some, by the mask of what they reach
+module _ {ρ : Rule} {masks : List ℕ} {mask over : ℕ} (known : Reached ρ masks mask over) where
+  tested : {lower : ℕ → ℕ → Bool} → Holds masks lower → {t : Bool} → has mask over ≡ t → clashes lower ρ ≡ t
+  tested {lower} h k = rw (← known .right) (sym (known .reach lower h over (known .small)) ∙ k)
 
-  -- with inner roles, a mask of what they reach, and the right name
-  module _ (inner : Chain) (e : inner-of (Order.shape ρ) ≡ inner) (mask : ℕ)
-      (reach : (lower : ℕ → ℕ → Bool) → Holds masks lower → (y : ℕ) → y < 64 → has mask y ≡ reaches lower inner y)
-      (over : ℕ) (o : over ≡ name (ρ .right)) (small : over < 64) where
-    tested : (lower : ℕ → ℕ → Bool) → Holds masks lower → (t : Bool) → has mask over ≡ t → clashes lower ρ ≡ t
-    tested lower h t k = rw (e, ← o) (sym (reach lower h over small) ∙ k)
+  with-right : {new : List ℕ} (lower : ℕ → ℕ → Bool) → Holds new (with-inner lower over (inner-of (Order.shape ρ))) → Holds new (with-rule lower ρ)
+  with-right {new} lower = subst (λ (x : ℕ). Holds new (with-inner lower x (inner-of (Order.shape ρ)))) (known .right)
 
-    pub added-clash : (new : List ℕ) → has mask over ≡ true → Added Clash new
-    added-clash new k lower t h =
-        let f : clashes lower ρ ≡ true = tested lower h true k in
-        (rw f refl, λ q. absurd (true≢false (sym f ∙ q)))
+  pub added-clash : {new : List ℕ} → has mask over ≡ true → Added ρ masks Clash new
+  added-clash k =
+      record {
+        answer = λ lower t h. rw (tested h k) refl;
+        leaves = λ lower t h f. absurd (true≢false (sym (tested h k) ∙ f));
+      }
 
-    pub added-extends : (new : List ℕ) → has mask over ≡ false
-        → ((order : ℕ → ℕ → Bool) (v : Chain) → Holds masks order → ((y : ℕ) → y < 64 → has mask y ≡ reaches order v y) → Holds new (with-inner order over v))
-        → Added Extends new
-    added-extends new k leaves lower t h =
-        (rw (tested lower h false k) refl, λ _. with-inner-rule lower new inner e (rw (← o) (leaves lower inner h (reach lower h))))
+  pub added-extends : {new : List ℕ} → has mask over ≡ false
+      → ((order : ℕ → ℕ → Bool) (v : Chain) → Holds masks order → ((y : ℕ) → y < 64 → has mask y ≡ reaches order v y) → Holds new (with-inner order over v))
+      → Added ρ masks Extends new
+  added-extends k absorbed =
+      record {
+        answer = λ lower t h. rw (tested h k) refl;
+        leaves = λ lower t h f. with-right lower (absorbed lower (inner-of (Order.shape ρ)) h (known .reach lower h));
+      }
 
-    -- what the inner roles reach is below the right name already, and so below all names above it
-    module _ (known : bitOr mask (getD masks over 0) ≡ getD masks over 0) (lower : ℕ → ℕ → Bool) (t : Gather.Transitive lower) (h : Holds masks lower) where
-      below : (y : ℕ) → y < 64 → reaches lower inner y ≡ true → lower y over ≡ true
-      below y p r =
-          sym (h .bits over y small p) ∙ ap (λ (m : ℕ). has m y) (sym known) ∙ has-or mask (getD masks over 0) y
-          ∙ rw (reach lower h y p, r) refl
+  -- what the inner roles reach is below the right name already, and so below all names above it
+  module _ (seen : bitOr mask (getD masks over 0) ≡ getD masks over 0) {lower : ℕ → ℕ → Bool} (t : Transitive lower) (h : Holds masks lower) where
+    below : (y : ℕ) → y < 64 → reaches lower (inner-of (Order.shape ρ)) y ≡ true → lower y over ≡ true
+    below y p r =
+        sym (h .bits over y (known .small) p) ∙ ap (λ (m : ℕ). has m y) (sym seen) ∙ has-or mask (getD masks over 0) y
+        ∙ rw (known .reach lower h y p, r) refl
 
-      nothing-new : (x y : ℕ) → y < 64 → lower y x ≡ with-inner lower over inner y x
-      unfolding with-inner
-      nothing-new x y p = by-tests (lower y x) (eqb x over) (lower over x) (reaches lower inner y) refl refl refl refl
-        where
-          by-tests : (a b c d : Bool) → lower y x ≡ a → eqb x over ≡ b → lower over x ≡ c → reaches lower inner y ≡ d → a ≡ (a || ((b || c) && d))
-          by-tests true b c d f g i j = refl
-          by-tests false true c true f g i j =
-              absurd (true≢false (sym (ap (lower y) (eqb-true x over g) ∙ below y p j) ∙ f))
-          by-tests false false true true f g i j = absurd (true≢false (sym (t y over x (below y p j) i) ∙ f))
-          by-tests false false false true f g i j = refl
-          by-tests false true c false f g i j = refl
-          by-tests false false true false f g i j = refl
-          by-tests false false false false f g i j = refl
+    nothing-new : (x y : ℕ) → y < 64 → lower y x ≡ with-inner lower over (inner-of (Order.shape ρ)) y x
+    unfolding with-inner
+    nothing-new x y p = by-tests (lower y x) (eqb x over) (lower over x) (reaches lower (inner-of (Order.shape ρ)) y) refl refl refl refl
+      where
+        by-tests : (a b c d : Bool) → lower y x ≡ a → eqb x over ≡ b → lower over x ≡ c → reaches lower (inner-of (Order.shape ρ)) y ≡ d
+            → a ≡ (a || ((b || c) && d))
+        by-tests true b c d f g i j = refl
+        by-tests false true c true f g i j =
+            absurd (true≢false (sym (ap (lower y) (eqb-true x over g) ∙ below y p j) ∙ f))
+        by-tests false false true true f g i j = absurd (true≢false (sym (t y over x (below y p j) i) ∙ f))
+        by-tests false false false true f g i j = refl
+        by-tests false true c false f g i j = refl
+        by-tests false false true false f g i j = refl
+        by-tests false false false false f g i j = refl
 
-      still-holds : Holds masks (with-inner lower over inner)
-      still-holds = record { bits = λ x y p q. h .bits x y p q ∙ nothing-new x y q }
+    still-holds : Holds masks (with-inner lower over (inner-of (Order.shape ρ)))
+    still-holds = record { bits = λ x y p q. h .bits x y p q ∙ nothing-new x y q }
 
-    pub added-known : has mask over ≡ false → bitOr mask (getD masks over 0) ≡ getD masks over 0 → Added Extends masks
-    added-known k known lower t h =
-        (rw (tested lower h false k) refl, λ _. with-inner-rule lower masks inner e (rw (← o) (still-holds known lower t h)))
+  pub added-known : has mask over ≡ false → bitOr mask (getD masks over 0) ≡ getD masks over 0 → Added ρ masks Extends masks
+  added-known k seen =
+      record {
+        answer = λ lower t h. rw (tested h k) refl;
+        leaves = λ lower t h f. with-right lower (still-holds seen t h);
+      }

@@ -22,9 +22,9 @@ holds-front n masks h = record { bits = λ x y p q. by-place x y p q (lt-or-le x
     by-place x y p q (inr l) = rw (List·getD-eq-default (take n masks) 0 {n = x} (rw length-take (omega arith))) (has-zero y)
 
 -- a walk past the last mask has absorbed the set, for all names
-pub absorbing-past : (old : List ℕ) (right lower : ℕ) (new : List ℕ) (x : ℕ) → length old ≤ x → x ≤ 64 → right < length old
+pub absorbing-past : {old : List ℕ} {right lower : ℕ} {new : List ℕ} {x : ℕ} → length old ≤ x → x ≤ 64 → right < length old
     → Absorbing old right lower new x → Absorbing old right lower new 64
-absorbing-past old right lower new x p q r a =
+absorbing-past {old} {right} {lower} {new} {x} p q r a =
     record { size = a .size; past = λ z k. by-place z (lt-or-le z x); ahead = λ z k. a .ahead z (omega arith) }
   where
     by-place : (z : ℕ) → (z < x) ⊎ (x ≤ z) → getD new z 0 ≡ grown right lower z (getD old z 0)
@@ -33,9 +33,9 @@ absorbing-past old right lower new x p q r a =
         a .ahead z l ∙ rw (List·getD-eq-default old 0 {n = z} (omega arith), above-none right z 0 (omega arith) (has-zero right)) refl
 
 -- a walk past the last mask has counted the names, for all names
-pub counting-past : (masks levels : List ℕ) (x : ℕ) → length masks ≤ x → Counting masks levels x
+pub counting-past : {masks levels : List ℕ} {x : ℕ} → length masks ≤ x → Counting masks levels x
     → (z : ℕ) → z < 64 → getD levels z 0 ≡ count 64 (has (getD masks z 0))
-counting-past masks levels x p c z q = by-place (lt-or-le z x)
+counting-past {masks} {levels} {x} p c z q = by-place (lt-or-le z x)
   where
     by-place : (z < x) ⊎ (x ≤ z) → getD levels z 0 ≡ count 64 (has (getD masks z 0))
     by-place (inl l) = c .past z l

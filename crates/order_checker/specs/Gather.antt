@@ -7,6 +7,7 @@ use lib.ListN.{length, getD, replicate}
 use Rattle.roles.specs.Role.{name}
 use Rattle.roles.specs.Rule.{Rule, Book}
 use Rattle.order.specs.Shape.{shape}
+use Rattle.order.specs.Closure.{with-rule, clashes}
 use Rattle.order.specs.Leveled.{Fits}
 use Rattle.name_sets.specs.Mask.{Holds}
 use Rattle.order.specs.ClosureLaws.{Closed}
@@ -27,6 +28,11 @@ Transitive lower = (x y z : ℕ) → lower x y ≡ true → lower y z ≡ true �
 abbrev pub gathered : Bool → Gathered
 gathered false = Extends
 gathered true = Clash
+
+-- what adding a rule to masks answers, and the masks that it leaves: the order goes on unless the rule clashes with it
+pub record Added (ρ : Rule) (masks : List ℕ) (r : Gathered) (new : List ℕ) : Type 0 where
+  pub answer : (lower : ℕ → ℕ → Bool) → Transitive lower → Holds masks lower → r ≡ gathered (clashes lower ρ)
+  pub leaves : (lower : ℕ → ℕ → Bool) → Transitive lower → Holds masks lower → clashes lower ρ ≡ false → Holds new (with-rule lower ρ)
 
 -- where the book passes, the masks hold the order that its rules force
 abbrev pub Gathered-order : List ℕ → Result Header → List ℕ → Type 0

@@ -1,10 +1,10 @@
 // The order check: whether a book has a regular order, cause 8 of document 01, and levels that follow it.
-ghost use mathlib.Core.Bool.{Bool, true, false};
+ghost use mathlib.Core.Bool.{true};
 ghost use mathlib.Core.List.{_∷_};
 ghost use mathlib.Core.Path.{_≡_};
 ghost use Prim.Native.Nat.{ℕ, _<_, _≤_};
 ghost use lib.ListN.{length, getD};
-ghost use Rattle.order.specs.Closure.{no-order, with-rule, clashes};
+ghost use Rattle.order.specs.Closure.{no-order};
 ghost use Rattle.name_sets.specs.Mask.{Holds, count};
 ghost use Rattle.name_sets.specs.Mask.{has as has-of};
 ghost use Rattle.base.specs.Result.{map-result};
@@ -13,7 +13,7 @@ ghost use Rattle.book_format.specs.Format.{named};
 ghost use Rattle.book_format.specs.Format.{read as read-of};
 ghost use Rattle.book_causes.specs.Ordered.{ordered};
 ghost use Rattle.book_decoder.specs.Verdict.{header-of, says};
-ghost use Rattle.order_checker.specs.Gather.{gathered, Transitive, Ordered, Gathered-order};
+ghost use Rattle.order_checker.specs.Gather.{Added, Ordered, Gathered-order};
 
 mod masks;
 
@@ -100,10 +100,7 @@ pub enum Gathered {
 fn add_rule(left: &[u8], right: u8, masks: &mut [u64]) -> Gathered
     requires { ⌜ named (length (now masks)) (right ∷ now left) ≡ true ⌝ }
     requires { ⌜ length (now masks) ≤ 64 ⌝ }
-    ensures { λ r. ⌜ ((lower : ℕ → ℕ → Bool) → Transitive lower → Holds (now (masks .entry)) lower →
-        (r ≡ gathered (clashes lower (record { left = now (left .entry); right = right })))
-        × (clashes lower (record { left = now (left .entry); right = right }) ≡ false
-        → Holds (now (masks .exit)) (with-rule lower (record { left = now (left .entry); right = right })))) ⌝ }
+    ensures { λ r. ⌜ Added (record { left = now (left .entry); right = right }) (now (masks .entry)) r (now (masks .exit)) ⌝ }
 {
     let Shape::Row(row) = shape_of(left, right) else {
         return Gathered::Extends;

@@ -24,10 +24,10 @@ abbrev pub grown : (right lower x m : ℕ) → ℕ
 grown right lower x m = cond (above right x m) (bitOr m lower) m
 
 module _ (right x m : ℕ) where
-  pub above-own : x ≡ right → above right x m ≡ true
+  above-own : x ≡ right → above right x m ≡ true
   above-own e = or-left (eqb x right) (has m right) (eq-eqb x right e)
 
-  pub above-has : has m right ≡ true → above right x m ≡ true
+  above-has : has m right ≡ true → above right x m ≡ true
   above-has h = or-right (eqb x right) (has m right) h
 
   pub above-none : (x ≡ right → ⊥) → has m right ≡ false → above right x m ≡ false
@@ -39,16 +39,23 @@ pub record Absorbing (old : List ℕ) (right lower : ℕ) (new : List ℕ) (x : 
   pub past : (z : ℕ) → z < x → getD new z 0 ≡ grown right lower z (getD old z 0)
   pub ahead : (z : ℕ) → x ≤ z → getD new z 0 ≡ getD old z 0
 
-module _ (old : List ℕ) (right lower : ℕ) where
+-- a name of a mask that grew
+has-grown : (right lower x m y : ℕ) → has (grown right lower x m) y ≡ (has m y || (above right x m && has lower y))
+has-grown right lower x m y = by-test (above right x m)
+  where
+    by-test : (t : Bool) → has (cond t (bitOr m lower) m) y ≡ (has m y || (t && has lower y))
+    by-test true = has-or m lower y
+    by-test false = sym (or-false (has m y))
+
+module _ {old : List ℕ} {right lower : ℕ} where
   pub absorbing-start : Absorbing old right lower old 0
   absorbing-start = record { size = refl; past = λ z p. absurd (let f : ⊥ = omega arith in f); ahead = λ z p. refl }
 
-  module _ (new : List ℕ) (x : ℕ) (fits : x < length old) (a : Absorbing old right lower new x) where
+  module _ {new : List ℕ} {x : ℕ} (fits : x < length old) (a : Absorbing old right lower new x) where
     here : getD new x 0 ≡ getD old x 0
     here = a .ahead x (omega arith)
 
-    -- the next mask absorbs the set, or stays as it is
-    pub absorbing-grown : above right x (getD new x 0) ≡ true → Absorbing old right lower (set new x (bitOr (getD new x 0) lower)) (x + 1)
+    absorbing-grown : above right x (getD new x 0) ≡ true → Absorbing old right lower (set new x (bitOr (getD new x 0) lower)) (x + 1)
     absorbing-grown t =
         record {
           size = length-set new x (bitOr (getD new x 0) lower) ∙ a .size;
@@ -62,31 +69,30 @@ module _ (old : List ℕ) (right lower : ℕ) where
             rw (e, getD-set-same new x (bitOr (getD new x 0) lower) 0 (omega (arith, a .size)), ← here, t) refl
         by-place z p (inr e) = getD-set-other new x z (bitOr (getD new x 0) lower) 0 e ∙ a .past z (omega arith)
 
-    pub absorbing-kept : above right x (getD new x 0) ≡ false → Absorbing old right lower new (x + 1)
-    absorbing-kept t =
+    -- the next mask absorbs the set, as the name's own or as one above it, or stays as it is
+    pub absorbing-own : x ≡ right → Absorbing old right lower (set new x (bitOr (getD new x 0) lower)) (x + 1)
+    absorbing-own e = absorbing-grown (above-own right x (getD new x 0) e)
+
+    pub absorbing-above : has (getD new x 0) right ≡ true → Absorbing old right lower (set new x (bitOr (getD new x 0) lower)) (x + 1)
+    absorbing-above h = absorbing-grown (above-has right x (getD new x 0) h)
+
+    pub absorbing-kept : (x ≡ right → ⊥) → has (getD new x 0) right ≡ false → Absorbing old right lower new (x + 1)
+    absorbing-kept n h =
         record { size = a .size; past = λ z p. by-place z p (eq-or-ne z x); ahead = λ z p. a .ahead z (omega arith) }
       where
         by-place : (z : ℕ) → z < x + 1 → (z ≡ x) ⊎ (z ≡ x → ⊥) → getD new z 0 ≡ grown right lower z (getD old z 0)
-        by-place z p (inl e) = rw (e, ← here, t) refl
+        by-place z p (inl e) = rw (e, ← here, above-none right x (getD new x 0) n h) refl
         by-place z p (inr e) = a .past z (omega arith)
 
-  -- a name of a mask that grew
-  has-grown : (x m y : ℕ) → has (grown right lower x m) y ≡ (has m y || (above right x m && has lower y))
-  has-grown x m y = by-test (above right x m)
-    where
-      by-test : (t : Bool) → has (cond t (bitOr m lower) m) y ≡ (has m y || (t && has lower y))
-      by-test true = has-or m lower y
-      by-test false = sym (or-false (has m y))
-
-  pub absorbing-end : (new : List ℕ) (x : ℕ) → 64 ≤ x → right < 64 → Absorbing old right lower new x
+  pub absorbing-end : {new : List ℕ} {x : ℕ} → 64 ≤ x → right < 64 → Absorbing old right lower new x
       → (order : ℕ → ℕ → Bool) (inner : Chain) → Holds old order → ((y : ℕ) → y < 64 → has lower y ≡ reaches order inner y)
       → Holds new (with-inner order right inner)
   unfolding with-inner
-  absorbing-end new x p q a order inner h e =
+  absorbing-end p q a order inner h e =
       record {
         bits =
             λ z y k l.
-            rw (a .past z (omega arith), has-grown z (getD old z 0) y, h .bits z y k l, h .bits z right k q, e y l) refl;
+            rw (a .past z (omega arith), has-grown right lower z (getD old z 0) y, h .bits z y k l, h .bits z right k q, e y l) refl;
       }
 
 -- a rule without inner roles changes nothing

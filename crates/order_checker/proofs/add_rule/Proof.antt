@@ -5,19 +5,19 @@ use Prim.Native.Nat.{_<_, _+_, _-_}
 use native.Mathlib.Omega.{arith}
 use lib.ListN.{length}
 use Rattle.book_format.specs.ReadLaws.{named-name, named-part}
-use Rattle.order_checker.specs.AddLaws.{no-inner, row-within, row-inner, added-none, added-clash, added-known, added-extends}
+use Rattle.order_checker.specs.AddLaws.{Reached, no-inner, row-within, row-reached, added-none, added-clash, added-known, added-extends}
 use borrow.Author.Needs.{needs}
 use Rattle.order_checker.proofs.add_rule.Statement.{statement}
 use Rattle.order_checker.proofs.add_rule.Tie as tie
 
 returns : tie.Need-returns
-returns c = added-none _ _ (no-inner _ _ _ (c .before .shape-of .ensures) (λ row e. ⊎-elim (λ z. omega arith) (λ z. omega arith) (rw e at (c .match .keys2))))
+returns c = added-none (no-inner _ _ (c .before .shape-of .ensures) (λ row e. ⊎-elim (λ z. omega arith) (λ z. omega arith) (rw e at (c .match .keys2))))
 
 add-end : tie.Need-add-end
-add-end c = omega (arith, row-within _ _ _ (c .before .before .before .before .shape-of .ensures) _ (c .before .before .row .given .1), c .before .before .before .before .before .before .before .good)
+add-end c = omega (arith, row-within _ _ (c .before .before .before .before .shape-of .ensures) (c .before .before .row .given .1), c .before .before .before .before .before .before .before .good)
 
 part-reached-end : tie.Need-part-reached-end
-part-reached-end c = row-within _ _ _ (c .before .before .before .before .shape-of .ensures) _ (c .before .before .row .given .1)
+part-reached-end c = row-within _ _ (c .before .before .before .before .shape-of .ensures) (c .before .before .row .given .1)
 
 reached-requires : tie.Need-reached-requires
 reached-requires c κs =
@@ -31,19 +31,23 @@ over-masked c = rw (c .name .ensures) (named-name _ _ _ (c .before .before .befo
 over-small : (c : tie.After-name) → c .name .result < 64
 over-small c = omega (arith, over-masked c, c .before .before .before .before .before .before .before .before .before .before .before .pre .1)
 
+-- the mask holds what the inner roles reach
+known : (c : tie.After-name) → Reached (record { left = c .before .before .before .before .before .before .before .before .before .before .before .args .left .now; right = c .before .before .before .before .before .before .before .before .before .before .before .args .right }) (c .before .before .before .before .before .before .before .before .before .before .before .args .masks .now) (c .before .reached .result) (c .name .result)
+known c = row-reached _ _ (c .before .before .before .before .before .before .before .before .shape-of .ensures) (c .before .before .before .before .before .before .row .given .1) (c .before .reached .ensures) (c .name .ensures) (over-small c)
+
 returns-2 : tie.Need-returns-2
-returns-2 c = added-clash _ _ _ (row-inner _ _ _ (c .before .before .before .before .before .before .before .before .before .before .shape-of .ensures) _ (c .before .before .before .before .before .before .before .before .row .given .1)) _ (c .before .before .before .reached .ensures) _ (c .before .before .name .ensures) (over-small (c .before .before)) _ (sym (c .before .has .ensures) ∙ c .if1 .taken)
+returns-2 c = added-clash (known (c .before .before)) (sym (c .before .has .ensures) ∙ c .if1 .taken)
 
 returns-3 : tie.Need-returns-3
-returns-3 c = added-known _ _ _ (row-inner _ _ _ (c .before .before .before .before .before .before .before .before .before .before .before .before .shape-of .ensures) _ (c .before .before .before .before .before .before .before .before .before .before .row .given .1)) _ (c .before .before .before .before .before .reached .ensures) _ (c .before .before .before .before .name .ensures) (over-small (c .before .before .before .before)) (sym (c .before .before .before .has .ensures) ∙ c .before .before .if1 .left) (c .if2 .taken)
+returns-3 c = added-known (known (c .before .before .before .before)) (sym (c .before .before .before .has .ensures) ∙ c .before .before .if1 .left) (c .if2 .taken)
 
 absorb-requires : tie.Need-absorb-requires
 absorb-requires c κs = (over-masked (c .before .before .before .before .before), c .before .before .before .before .before .before .before .before .before .before .before .before .before .before .before .before .pre .1)
 
 returns-4 : tie.Need-returns-4
 returns-4 c =
-    let at-before = c .before .before .before .before .before .before .before in
-    added-extends _ _ _ (row-inner _ _ _ (c .before .before .before .before .before .before .before .before .before .before .before .before .before .before .before .before .shape-of .ensures) _ (c .before .before .before .before .before .before .before .before .before .before .before .before .before .before .row .given .1)) _ (c .before .before .before .before .before .before .before .before .before .reached .ensures) _ (c .before .before .before .before .before .before .before .before .name .ensures) (over-small (at-before .before)) _ (sym (at-before .has .ensures) ∙ c .before .before .before .before .before .before .if1 .left) (c .before .before .absorb .ensures)
+    let at-has = c .before .before .before .before .before .before .before in
+    added-extends (known (at-has .before)) (sym (at-has .has .ensures) ∙ c .before .before .before .before .before .before .if1 .left) (c .before .before .absorb .ensures)
 
 pub add-rule-spec : {M : Type 1} → statement M
 add-rule-spec =

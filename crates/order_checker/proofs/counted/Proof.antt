@@ -23,13 +23,13 @@ loop-again : tie.Need-loop-again Inv-loop μ-loop
 loop-again c = (
   omega (arith, c .before .before .loop-test .taken),
   ⊎-elim
-      (λ w. rw (w .1) (counting-next _ _ _ (omega (arith, c .before .before .loop-test .taken)) (c .before .shared-slice-known .given (c .before .before .before .loop .x) .fits) (c .before .before .before .loop .inv .1)))
-      (λ w. rw (w .1) (counting-empty _ _ _ (omega (arith, c .before .before .loop-test .taken)) (w .0 .left) (c .before .before .before .loop .inv .1)))
+      (λ w. rw (w .1) (counting-next (omega (arith, c .before .before .loop-test .taken)) (c .before .shared-slice-known .given (c .before .before .before .loop .x) .fits) (c .before .before .before .loop .inv .1)))
+      (λ w. rw (w .1) (counting-empty (omega (arith, c .before .before .loop-test .taken)) (w .0 .left) (c .before .before .before .loop .inv .1)))
       (c .if1 .came),
 )
 
 returns : tie.Need-returns Inv-loop μ-loop
-returns c = (c .before .loop .inv .1 .size, counting-past _ _ _ (c .loop-test .left) (c .before .loop .inv .1))
+returns c = (c .before .loop .inv .1 .size, counting-past (c .loop-test .left) (c .before .loop .inv .1))
 
 pub counted-spec : {M : Type 1} → statement M
 counted-spec =
@@ -37,7 +37,7 @@ counted-spec =
     (tie.spec
     Inv-loop
     μ-loop
-    (λ c. (omega arith, counting-start _))
+    (λ c. (omega arith, counting-start))
     (λ c. search needs)
     (λ c. search needs)
     cast-levels

@@ -5,7 +5,7 @@ use native.Mathlib.Omega.{arith}
 use borrow.Author.Needs.{needs}
 use lib.ListN.{length}
 use Rattle.book_format.specs.Place.{rule-place}
-use Rattle.order_checker.specs.GatherLaws.{Gathers, gathers-start, few-names, whole-rule, named-rule, gathers-next, gathers-clash, gathers-end}
+use Rattle.order_checker.specs.GatherLaws.{Gathers, gathers-start, formed, few-names, whole-rule, named-rule, gathers-next, gathers-clash, gathers-end}
 use Rattle.book_cursor.specs.CursorLaws.{Hands, Yields, yields}
 use Rattle.order_checker.proofs.gather.Statement.{statement}
 use Rattle.order_checker.proofs.gather.Tie as tie
@@ -25,44 +25,47 @@ handed c = turn (c .before .before) .hands (c .entry .given .1)
 
 loop-holds : tie.Need-loop-holds Inv-loop μ-loop
 unfolding rule-place
-loop-holds c = (omega arith, (c .first .ensures, (c .before .before .before .pre .1 .0, gathers-start _ _ (c .before .before .before .pre .1 .1))))
+loop-holds c = (omega arith, (c .first .ensures, (c .before .before .before .pre .1 .0, gathers-start (c .before .before .before .pre .1 .1))))
 
 returns : tie.Need-returns Inv-loop μ-loop
 returns c =
     let at-step = c .before .before in
-    absurd (turn at-step .some (whole-rule _ _ (at-step .before .before .before .before .before .before .pre .0) _ (at-step .before .loop-test .taken)) (c .enum-told .given .1))
+    absurd (turn at-step .some (whole-rule (formed (at-step .before .before .before .before .before .before .pre .0)) (at-step .before .loop-test .taken)) (c .enum-told .given .1))
 
 add-end : tie.Need-add-end Inv-loop μ-loop
 add-end c = omega (arith, handed (c .before .before) .fits, c .before .before .before .before .before .before .before .before .before .before .good)
 
 add-rule-requires : tie.Need-add-rule-requires Inv-loop μ-loop
 add-rule-requires c κs =
-    let turn = c .before .before .before .before .before .before .before .before in
-    let entry = turn .before .before .before .before in
-    (rw (turn .loop .inv .1 .1 .0) (named-rule _ _ (entry .pre .0) (turn .loop .number) (c .before .before .before .before .before .before .before .loop-test .taken) _ (handed (c .before .before .before .before) .part)), rw (turn .loop .inv .1 .1 .0) (few-names _ _ (entry .pre .0)))
+    let at-entry = c .before .before .before .before in
+    let at-loop = at-entry .before .before .before .before in
+    let f = formed (at-loop .before .before .before .before .pre .0) in
+    (rw (at-loop .loop .inv .1 .1 .0) (named-rule f (at-entry .before .before .before .loop-test .taken) (handed at-entry .part)), rw (at-loop .loop .inv .1 .1 .0) (few-names f))
 
 returns-2 : tie.Need-returns-2 Inv-loop μ-loop
 returns-2 c =
-    let turn = c .before .before .before .before .before .before .before .before .before .before .before .before .before in
-    (gathers-clash _ _ (c .before .before .before .before .before .before .before .before .before .before .before .before .before .before .before .before .before .pre .0) (turn .loop .number) (c .before .before .before .before .before .before .before .before .before .before .before .before .loop-test .taken) _ (handed (c .before .before .before .before .before .before .before .before .before) .part) _ _ _ (c .before .before .before .before .add-rule .ensures) (turn .loop .inv .1 .1 .1) (c .enum-told3 .given .1), tt)
+    let at-entry = c .before .before .before .before .before .before .before .before .before in
+    let at-loop = at-entry .before .before .before .before in
+    (gathers-clash (formed (at-loop .before .before .before .before .pre .0)) (at-entry .before .before .before .loop-test .taken) (handed at-entry .part) (c .before .before .before .before .add-rule .ensures) (at-loop .loop .inv .1 .1 .1) (c .enum-told3 .given .1), tt)
 
 loop-again : tie.Need-loop-again Inv-loop μ-loop
 loop-again c =
     let at-add-rule = c .before .before .before .before in
-    let at-before = at-add-rule .before .before .before .before in
-    let turn = at-before .before .before .before .before .before in (
+    let at-entry = at-add-rule .before .before .before .before .before in
+    let at-loop = at-entry .before .before .before .before in
+    let h = handed at-entry in (
       omega arith,
       (
-        handed (at-before .before) .place,
+        h .place,
         (
-          at-add-rule .add-rule .kept .1 .1 .0 ∙ turn .loop .inv .1 .1 .0,
-          gathers-next _ _ (c .before .before .before .before .before .before .before .before .before .before .before .before .before .before .before .before .before .pre .0) (turn .loop .number) (c .before .before .before .before .before .before .before .before .before .before .before .before .loop-test .taken) _ (handed (at-before .before) .part) _ _ _ (at-add-rule .add-rule .ensures) (turn .loop .inv .1 .1 .1) (c .enum-told2 .given .1),
+          at-add-rule .add-rule .kept .1 .1 .0 ∙ at-loop .loop .inv .1 .1 .0,
+          gathers-next (formed (at-loop .before .before .before .before .pre .0)) (at-entry .before .before .before .loop-test .taken) (h .part) (at-add-rule .add-rule .ensures) (at-loop .loop .inv .1 .1 .1) (c .enum-told2 .given .1),
         ),
       ),
     )
 
 returns-3 : tie.Need-returns-3 Inv-loop μ-loop
-returns-3 c = gathers-end _ _ (c .before .before .before .before .before .pre .0) _ _ (c .loop-test .left) (c .before .loop .inv .1 .1 .1)
+returns-3 c = gathers-end (formed (c .before .before .before .before .before .pre .0)) (c .loop-test .left) (c .before .loop .inv .1 .1 .1)
 
 pub gather-spec : {M : Type 1} → statement M
 gather-spec =

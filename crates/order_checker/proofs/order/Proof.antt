@@ -10,7 +10,7 @@ use Rattle.base.specs.Result.{map-result}
 use Rattle.base.specs.Result.Result.{ok}
 use Rattle.order_masks.specs.AbsorbLaws.{holds-none}
 use Rattle.order_checker.specs.FrontLaws.{holds-front}
-use Rattle.order_checker.specs.GatherLaws.{few-names}
+use Rattle.order_checker.specs.GatherLaws.{formed, few-names}
 use Rattle.order_checker.specs.OrderLaws.{order-refused, order-passed}
 use Rattle.book_decoder.specs.Verdict.{header-of, says}
 use Rattle.order_checker.proofs.order.Statement.{statement}
@@ -19,14 +19,14 @@ use Rattle.order_checker.proofs.order.Tie as tie
 returns : tie.Need-returns
 returns c =
     let r = ap says (c .enum-told .given .1) in
-    order-refused _ _ (r ∙ sym (ap (map-result header-of) (ordered-refused header-of _ _ _ (sym r ∙ c .before .before .read .ensures)))) _ _ r
+    order-refused (r ∙ sym (ap (map-result header-of) (ordered-refused header-of _ (sym r ∙ c .before .before .read .ensures)))) r
 
 -- the header is that of a book that `read` accepts, and has at most 64 names
 ok-header : (c : tie.After-known-told) → map-result header-of (read (c .before .before .before .before .before .args .book .now)) ≡ ok (c .before .verdict .given .0 .0)
 ok-header c = sym (sym (ap says (c .before .verdict .given .1)) ∙ c .before .before .before .read .ensures)
 
 few : (c : tie.After-known-told) → c .before .verdict .given .0 .0 .names ≤ 64
-few c = few-names _ _ (ok-header c)
+few c = few-names (formed (ok-header c))
 
 -- there is a mask for each name
 as-many : (c : tie.After-known-told) → length {A = ℕ} (take (c .before .verdict .given .0 .0 .names) (replicate 64 0)) ≡ c .before .verdict .given .0 .0 .names
@@ -36,7 +36,7 @@ gather-requires : tie.Need-gather-requires
 gather-requires c κs = (ok-header (c .before), (as-many (c .before), holds-front (c .before .before .verdict .given .0 .0 .names) (replicate 64 0) holds-none))
 
 returns-2 : tie.Need-returns-2
-returns-2 c = order-refused _ _ (c .before .before .before .gather .ensures .0) _ _ (ap says (c .enum-told3 .given .1))
+returns-2 c = order-refused (c .before .before .before .gather .ensures .0) (ap says (c .enum-told3 .given .1))
 
 array-share-prefix-masks : tie.Need-array-share-prefix-masks
 array-share-prefix-masks c = rw (length-front {A = ℕ} (replicate 64 0) _ _ (c .before .before .before .gather .kept .1 .1 .0)) (few (c .before .before .before .before .before))
@@ -47,7 +47,7 @@ counted-requires c κs = rw (length-take-le _ _ (array-share-prefix-masks (c .be
 returns-3 : tie.Need-returns-3
 returns-3 c =
     let at-gather = c .before .before .before .before .before in
-    order-passed _ _ (at-gather .gather .ensures .0) _ (ap says (c .before .before .enum-told2 .given .1)) _ _ (at-gather .gather .ensures .1) (c .counted .ensures .0) (rw (take-at _ _ _ (at-gather .gather .kept .1 .1 .0 ∙ as-many (c .before .before .before .before .before .before .before))) at (c .counted .ensures .1))
+    order-passed (at-gather .gather .ensures .0) (ap says (c .before .before .enum-told2 .given .1)) _ (at-gather .gather .ensures .1) (c .counted .ensures .0) (rw (take-at _ _ _ (at-gather .gather .kept .1 .1 .0 ∙ as-many (c .before .before .before .before .before .before .before))) at (c .counted .ensures .1))
 
 pub order-spec : {M : Type 1} → statement M
 order-spec =

@@ -23,10 +23,10 @@ name-small : (c : tie.After-name Inv-loop μ-loop) → c .name .result < 64
 name-small c = omega (arith, name-masked c, c .before .before .before .before .before .before .pre .1)
 
 loop-again : tie.Need-loop-again Inv-loop μ-loop
-loop-again c = (omega arith, reaching-next _ _ _ _ _ _ (c .before .before .before .before .loop-test .taken) (c .before .before .name .ensures) (name-small (c .before .before)) (c .before .single .ensures) (c .before .before .before .before .before .loop .inv .1))
+loop-again c = (omega arith, reaching-next (c .before .before .before .before .loop-test .taken) (c .before .before .name .ensures) (name-small (c .before .before)) (c .before .single .ensures) (c .before .before .before .before .before .loop .inv .1))
 
 returns : tie.Need-returns Inv-loop μ-loop
-returns c = reaching-end _ _ _ _ (c .loop-test .left) (c .before .loop .inv .1)
+returns c = reaching-end (c .loop-test .left) (c .before .loop .inv .1)
 
 pub reached-spec : {M : Type 1} → statement M
 reached-spec =
@@ -34,7 +34,7 @@ reached-spec =
     (tie.spec
     Inv-loop
     μ-loop
-    (λ c. (omega arith, reaching-start _ _))
+    (λ c. (omega arith, reaching-start))
     (λ c. search needs)
     (λ c κs. search needs)
     (λ c. omega (arith, name-small c))
