@@ -25,7 +25,7 @@ module _ (s : List ℕ) (at : ℕ) where
   step-whole h = rw (whole-true s at (h .short) (h .some) (h .few) (h .fits)) refl
 
 -- the entry at a place stands for the rule there
-pub entry-rule-at : (s : List ℕ) (at : ℕ) → entry-rule s (entry-at s at) ≡ rule-at s at
+entry-rule-at : (s : List ℕ) (at : ℕ) → entry-rule s (entry-at s at) ≡ rule-at s at
 unfolding entry-rule rule-at
 entry-rule-at s at = refl
 

@@ -41,7 +41,7 @@ leb-shift a k n h = by-place (lt-or-le (n - a) k)
     by-place (inr p) = le-leb k (n - a) p ∙ sym (le-leb (a + k) n (omega arith))
 
 -- what stands at a place
-pub front-at : (s : List ℕ) (at : ℕ) → front (drop at s) ≡ cond (whole-at s at) (whole (rule-at s at) (drop (next-at s at) s)) malformed
+front-at : (s : List ℕ) (at : ℕ) → front (drop at s) ≡ cond (whole-at s at) (whole (rule-at s at) (drop (next-at s at) s)) malformed
 unfolding front whole-at rule-at
 front-at s at = by-place (lt-or-le (length s) (at + 2))
   where
@@ -56,10 +56,6 @@ module _ (s : List ℕ) (at : ℕ) where
   pub whole-true : at + 2 ≤ length s → 1 ≤ size-at s at → size-at s at ≤ 8 → next-at s at ≤ length s → whole-at s at ≡ true
   unfolding whole-at
   whole-true h i j k = rw (le-leb (at + 2) (length s) h, le-leb 1 (size-at s at) i, le-leb (size-at s at) 8 j, le-leb (next-at s at) (length s) k) refl
-
-  pub whole-short : length s < at + 2 → whole-at s at ≡ false
-  unfolding whole-at
-  whole-short h = rw (lt-leb (at + 2) (length s) h) refl
 
   pub record Whole : Type 0 where
     pub short : at + 2 ≤ length s

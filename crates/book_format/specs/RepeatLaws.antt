@@ -13,7 +13,7 @@ use Rattle.book_format.specs.Format.{repeats, distinct}
 use Rattle.book_format.specs.Place.{rule-at, rule-place, first-rules}
 use Rattle.book_format.specs.FormatLaws.{length-first-rules, getD-first-rules}
 
-pub repeats-append : (ρ : Rule) (σs τs : List Rule) → repeats ρ (σs ++ τs) ≡ (repeats ρ σs || repeats ρ τs)
+repeats-append : (ρ : Rule) (σs τs : List Rule) → repeats ρ (σs ++ τs) ≡ (repeats ρ σs || repeats ρ τs)
 unfolding repeats
 repeats-append ρ [] τs = refl
 repeats-append ρ (σ ∷ σs) τs =

@@ -1,4 +1,4 @@
--- Laying a row, or the rows of shapes, one by one: what is left, laid from the place reached, lays the whole.
+-- Laying a row, one inner role after another: what is left, laid from the place reached, lays the whole. The rows of shapes, one after another.
 use mathlib.Core.List.{List, [], _∷_}
 use mathlib.Core.Path.{_≡_, sym, ap, subst}
 use Prim.Native.Nat.{ℕ, suc, _+_, _<_, _≤_}
@@ -9,7 +9,7 @@ use Rattle.roles.specs.Role.{Chain}
 use Rattle.order.specs.Shape.{Shape}
 use Rattle.tables.specs.Tables.{Transition, silent, row-size, rows-size, row-transitions, rows-transitions}
 use Rattle.table_laying.specs.Pieces.{rows-size-append, rows-transitions-append}
-use Rattle.table_laying.specs.Laid.{Laid, laid-none, laid-both, laid-row, laid-row-end}
+use Rattle.table_laying.specs.Laid.{Laid, laid-both, laid-row, laid-row-end}
 
 module _ (size : ℕ → ℕ) (inside : ℕ → ℕ → List Transition) where
   -- a row of the inner roles w, begun at a place; the roles from i on are left, the state reached and the place
@@ -41,14 +41,7 @@ module _ (size : ℕ → ℕ) (inside : ℕ → ℕ → List Transition) where
         a .whole q₁ l₁ n₁
         (rw (drop-of-length-le w {i = i} h, e) (laid-row-end size inside reached to q l n l₁ n₁ (rw e at t)))
 
-  -- the rows of the shapes ss, begun at a place; the shapes ts are left
-  pub record RowsLeft (i : ℕ) (ss : List Shape) (p k : ℕ) (m : List ℕ) (ts : List Shape) (q l : ℕ) (n : List ℕ) : Type 0 where
-    pub whole : (r j : ℕ) (o : List ℕ) → Laid (rows-size size ts) (rows-transitions size inside i q ts) q l n r j o
-        → Laid (rows-size size ss) (rows-transitions size inside i p ss) p k m r j o
-
-  pub rows-left-start : (i : ℕ) (ss : List Shape) (p k : ℕ) (m : List ℕ) → RowsLeft i ss p k m ss p k m
-  rows-left-start i ss p k m = record { whole = λ r j o a. a }
-
+  -- the rows of a shape in front of those of others
   pub laid-shapes : (i : ℕ) (s : Shape) (ts : List Shape) (q l : ℕ) (n : List ℕ) (q₁ l₁ : ℕ) (n₁ : List ℕ) (r j : ℕ) (o : List ℕ)
       → Laid (rows-size size (s ∷ [])) (rows-transitions size inside i q (s ∷ [])) q l n q₁ l₁ n₁
       → Laid (rows-size size ts) (rows-transitions size inside i q₁ ts) q₁ l₁ n₁ r j o
@@ -60,15 +53,3 @@ module _ (size : ℕ → ℕ) (inside : ℕ → ℕ → List Transition) where
       (laid-both (rows-size size (s ∷ [])) (rows-size size ts) (rows-transitions size inside i q (s ∷ [])) (rows-transitions size inside i q₁ ts)
       (rows-transitions size inside i (q + rows-size size (s ∷ [])) ts) q l n q₁ l₁ n₁ r j o a b
       (λ e. ap (λ (v : ℕ). rows-transitions size inside i v ts) e)))
-
-  pub rows-left-next : (i : ℕ) (ss : List Shape) (p k : ℕ) (m : List ℕ) (s : Shape) (ts : List Shape) (q l : ℕ) (n : List ℕ)
-      → RowsLeft i ss p k m (s ∷ ts) q l n → (q₁ l₁ : ℕ) (n₁ : List ℕ)
-      → Laid (rows-size size (s ∷ [])) (rows-transitions size inside i q (s ∷ [])) q l n q₁ l₁ n₁
-      → RowsLeft i ss p k m ts q₁ l₁ n₁
-  rows-left-next i ss p k m s ts q l n a q₁ l₁ n₁ b =
-      record { whole = λ r j o c. a .whole r j o (laid-shapes i s ts q l n q₁ l₁ n₁ r j o b c) }
-
-  pub rows-left-end : (i : ℕ) (ss : List Shape) (p k : ℕ) (m : List ℕ) (q l : ℕ) (n : List ℕ) → RowsLeft i ss p k m [] q l n
-      → Laid (rows-size size ss) (rows-transitions size inside i p ss) p k m q l n
-  unfolding rows-size rows-transitions
-  rows-left-end i ss p k m q l n a = a .whole q l n (laid-none q l n)
