@@ -8,8 +8,8 @@ ghost use Rattle.words.specs.Word.{word as word-of};
 ghost use Rattle.roles.specs.Role.{same-chain};
 ghost use Rattle.book_format.specs.Format.{mark-fits, counts-fit};
 ghost use Rattle.refusals.specs.Check.{check};
+use byte_parts::byte;
 use refusals::Check;
-use text_parts::byte;
 use words::word;
 
 // How many names and rules a book declares.

@@ -1,7 +1,7 @@
 // Towers: rule i makes `size` links of name i into one of name i + 1.
 use book_writer::put_header;
 use book_writer::put_rule;
-use text_parts::part;
+use byte_parts::part;
 
 // The bytes of a tower; `size` is at most 8.
 pub(crate) fn tower(names: u8, rules: u8, size: u8) -> [u8; 1024] {

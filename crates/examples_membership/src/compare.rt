@@ -2,8 +2,8 @@
 use crate::chain::spelled;
 use crate::questions::Question;
 use crate::second::derives;
+use byte_parts::part;
 use query_answerer::Answer;
-use text_parts::part;
 
 // Puts a question to tables and to rules. What is to be counted, as in `counts`: asked, agreed on, and answered by yes.
 pub(crate) fn compare(heads: &[u16], moves: &[u16], rules: [u64; 192], question: Question) -> u64 {

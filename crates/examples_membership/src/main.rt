@@ -14,9 +14,9 @@ mod script_numbers;
 mod second;
 mod trial;
 
+use byte_parts::find;
+use byte_parts::part;
 use script::try_line;
-use text_parts::find;
-use text_parts::part;
 
 fn main() {
     let mut space = io::large_buffer();

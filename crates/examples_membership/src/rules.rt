@@ -1,6 +1,6 @@
 // The rules of a well-formed book of up to 8 rules over roles below 16, read from its bytes. A rule is a number of 4-bit digits like its bytes: the
 // right role, then the left side as a chain.
-use text_parts::byte;
+use byte_parts::byte;
 
 // The rules, each followed by its mirror, over and over.
 pub(crate) fn rules_of(book: &[u8]) -> [u64; 192] {

@@ -7,9 +7,9 @@ use crate::script_numbers::read_list;
 use crate::script_numbers::read_number;
 use crate::trial::try_book;
 use crate::trial::try_made;
-use text_parts::byte;
-use text_parts::find;
-use text_parts::part;
+use byte_parts::byte;
+use byte_parts::find;
+use byte_parts::part;
 
 pub(crate) fn try_line(s: &[u8]) {
     let bar = find(s, 0, b'|');

@@ -1,5 +1,5 @@
 // The numbers that are written in a text. Every place is safe.
-use text_parts::byte;
+use byte_parts::byte;
 
 // A number of up to five digits, the place after the byte that ends it, and whether that is a space: then another of its list follows.
 pub(crate) struct Number {

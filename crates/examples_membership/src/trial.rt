@@ -14,8 +14,8 @@ use crate::questions::draw_question;
 use crate::questions::nth_question;
 use crate::rules::rules_of;
 use crate::script_numbers::numbers_of;
-use text_parts::byte;
-use text_parts::part;
+use byte_parts::byte;
+use byte_parts::part;
 
 // How far it is: the next seed and the counts.
 pub(crate) struct Trial {

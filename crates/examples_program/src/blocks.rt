@@ -1,7 +1,7 @@
 // Questions about the hall book in two blocks, answered by the calls that the program makes.
+use byte_parts::byte;
+use byte_parts::part;
 use libc::STDOUT_FILENO;
-use text_parts::byte;
-use text_parts::part;
 use transcript_writer::Tables;
 
 const HALL: [u8; 20] = *b"RLB\x01\0\x04\x03\0\0\x02\0\0\x02\x02\0\x02\x06\x02\x02\x04";

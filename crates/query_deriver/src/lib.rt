@@ -9,12 +9,12 @@ ghost use Rattle.book_causes.specs.Accepted.{built};
 ghost use Rattle.query_causes.specs.Query.{question, Answered};
 ghost use Rattle.refusals.specs.QueryRefusals.{query-cause};
 ghost use Rattle.query_deriver.specs.Replies.{says, Replies};
+use byte_parts::byte;
 use query_answerer::Answer;
 use query_checker::QueryVerdict;
 use refusals::BuildRefusal;
 use refusals::QueryRefusal;
 use table_builder::Outcome;
-use text_parts::byte;
 
 // What a question about a book is answered with.
 pub enum Reply {

@@ -1,4 +1,4 @@
--- Parts of a text, and the bytes before a wanted one.
+-- Parts of some bytes, and the bytes before a wanted one.
 use mathlib.Core.Bool.{cond, _&&_}
 use mathlib.Core.List.{List, [], _∷_}
 use Prim.Native.Nat.{ℕ, suc}
@@ -6,7 +6,7 @@ use lib.Dec.{leb, eqb}
 use lib.ListN.{length}
 use lib.Seq.{slice}
 
--- the bytes from a place to an end; none where the text has no such places
+-- the bytes from a place to an end; none where there are no such places
 abbrev pub between : (from end : ℕ) → List ℕ → List ℕ
 between from end s = cond (leb from end && leb end (length s)) (slice from end s) []
 

@@ -4,25 +4,25 @@ use Prim.Native.Nat.{_+_, _-_}
 use native.Mathlib.Omega.{arith}
 use borrow.Author.Needs.{needs}
 use lib.ListN.{length, drop}
-use Rattle.text_parts.specs.Text.{ahead}
-use Rattle.text_parts.specs.TextLaws.{ahead-found, ahead-next, ahead-end}
-use Rattle.text_parts.proofs.find.Statement.{statement}
-use Rattle.text_parts.proofs.find.Tie as tie
+use Rattle.byte_parts.specs.Bytes.{ahead}
+use Rattle.byte_parts.specs.BytesLaws.{ahead-found, ahead-next, ahead-end}
+use Rattle.byte_parts.proofs.find.Statement.{statement}
+use Rattle.byte_parts.proofs.find.Tie as tie
 
 abbrev Inv-loop : tie.InvT-loop
-Inv-loop text from wanted i₀ i = from + ahead wanted (drop from text) ≡ i + ahead wanted (drop i text)
+Inv-loop bytes from wanted i₀ i = from + ahead wanted (drop from bytes) ≡ i + ahead wanted (drop i bytes)
 
 abbrev μ-loop : tie.MeasureT-loop
-μ-loop text from wanted i₀ i = length text - i
+μ-loop bytes from wanted i₀ i = length bytes - i
 
 returns : tie.Need-returns Inv-loop μ-loop
-returns c = omega (arith, c .before .before .before .loop .inv, ahead-found _ (c .before .before .before .before .args .text .now) (c .before .before .before .loop .i) (c .before .before .loop-test .taken) (c .if1 .taken))
+returns c = omega (arith, c .before .before .before .loop .inv, ahead-found _ (c .before .before .before .before .args .bytes .now) (c .before .before .before .loop .i) (c .before .before .loop-test .taken) (c .if1 .taken))
 
 loop-again : tie.Need-loop-again Inv-loop μ-loop
 loop-again c = c .before .before .before .loop .inv ∙ ahead-next _ _ _ (c .before .before .loop-test .taken) (c .if1 .left)
 
 returns-2 : tie.Need-returns-2 Inv-loop μ-loop
-returns-2 c = omega (arith, c .before .loop .inv, ahead-end (c .before .before .args .wanted) (c .before .before .args .text .now) (c .before .loop .i) (omega arith))
+returns-2 c = omega (arith, c .before .loop .inv, ahead-end (c .before .before .args .wanted) (c .before .before .args .bytes .now) (c .before .loop .i) (omega arith))
 
 pub find-spec : {M : Type 1} → statement M
 find-spec =

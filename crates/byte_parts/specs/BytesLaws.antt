@@ -1,4 +1,4 @@
--- Laws of parts of a text, and of the bytes before a wanted one.
+-- Laws of parts of some bytes, and of the bytes before a wanted one.
 use mathlib.Core.Bool.{and-false}
 use mathlib.Core.List.{List, [], _∷_}
 use mathlib.Core.Path.{_≡_, refl, sym}
@@ -9,7 +9,7 @@ use borrow.Author.Tests.{le-leb, lt-leb, eq-eqb, ne-eqb}
 use lib.Dec.{leb}
 use lib.ListN.{length, getD, take, drop, drop-of-length-le}
 use lib.Seq.{slice, drop-cons, take-all}
-use Rattle.text_parts.specs.Text.{between, ahead}
+use Rattle.byte_parts.specs.Bytes.{between, ahead}
 
 -- a part as its end is cut off first, or its front
 slice-taken : (from end : ℕ) (s : List ℕ) → slice from end s ≡ take (end - from) (drop from s)
