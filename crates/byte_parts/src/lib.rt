@@ -1,8 +1,9 @@
-// Parts of some bytes, of a text or of a book. Every place is safe.
+// Parts of some bytes, of a text or of a book, and how many of them count. Every place is safe.
 ghost use mathlib.Core.Path.{_≡_};
 ghost use Prim.Native.Nat.{_+_};
 ghost use lib.ListN.{getD, drop};
 ghost use Rattle.byte_parts.specs.Bytes.{ahead, between};
+ghost use Rattle.byte_parts.specs.Least.{Least};
 
 // The byte at a place; 0 past the end.
 pub fn byte(bytes: &[u8], at: usize) -> u8
@@ -39,4 +40,14 @@ pub fn find(bytes: &[u8], from: usize, wanted: u8) -> usize
         i += 1;
     }
     i
+}
+
+// The lesser of two numbers.
+pub fn least(a: usize, b: usize) -> usize
+    ensures { λ r. ⌜ Least a b r ⌝ }
+{
+    if a < b {
+        return a;
+    }
+    b
 }

@@ -1,9 +1,9 @@
 -- From what a build promises, what the tables answer and what a refused question leaves to demand 3.
 use mathlib.Core.List.{List}
 use mathlib.Core.Path.{_≡_, refl, sym, ap, _∙_, subst}
-use Prim.Native.Nat.{ℕ, _*_, _≤_}
-use lib.Dec.{leb}
+use Prim.Native.Nat.{ℕ, _*_}
 use lib.ListN.{length, getD, take}
+use Rattle.byte_parts.specs.Least.{Least, least-test}
 use Rattle.roles.specs.Role.{Chain}
 use Rattle.roles.specs.Rule.{Book}
 use Rattle.base.specs.Result.{Result, and-then}
@@ -57,10 +57,9 @@ replies-kept s h m r w c v q a e =
 
 module _ (s h m h′ m′ : List ℕ) where
   -- what a build on other tables says of those lent, if both have as many numbers as any book needs, or the same
-  module _ (heads moves a b : ℕ) (i : length h ≡ a) (j : length m ≡ b) (f : (n : ℕ) → n ≤ 64 → leb n a ≡ leb n heads)
-      (g : (n : ℕ) → n ≤ 15360 → leb n b ≡ leb n moves) (x : QueryRefusal) where
+  module _ {heads moves a b : ℕ} (i : length h ≡ a) (j : length m ≡ b) (f : Least heads 64 a) (g : Least moves 15360 b) (x : QueryRefusal) where
     same : built s (length h) (length m) ≡ built s heads moves
-    same = rw (i, j) (built-enough a b heads moves f g s)
+    same = rw (i, j) (built-enough a b heads moves (least-test f) (least-test g) s)
 
     pub says-book : (y : BuildRefusal) → Builds s h m h′ m′ (Refused y)
         → says (Refused-book y) ≡ and-then (built s heads moves) (λ _. refused (query-cause x) 0)

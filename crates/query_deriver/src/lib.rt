@@ -1,7 +1,6 @@
 // Builds and asks in one call: whether a chain is derived from a role by the rules of a book. Its promise is demand 3 of document 01, whole.
 ghost use mathlib.Core.Path.{_≡_};
-ghost use Prim.Native.Nat.{ℕ, _≤_};
-ghost use lib.Dec.{leb};
+ghost use Prim.Native.Nat.{_≤_};
 ghost use lib.ListN.{length, getD, take};
 ghost use Rattle.base.specs.Result.{and-then};
 ghost use Rattle.base.specs.Result.Result.{refused, ok};
@@ -10,6 +9,7 @@ ghost use Rattle.query_causes.specs.Query.{question, Answered};
 ghost use Rattle.refusals.specs.QueryRefusals.{query-cause};
 ghost use Rattle.query_deriver.specs.Replies.{says, Replies};
 use byte_parts::byte;
+use byte_parts::least;
 use query_answerer::Answer;
 use query_checker::QueryVerdict;
 use refusals::BuildRefusal;
@@ -59,16 +59,6 @@ fn refuse(book: &[u8], heads: usize, moves: usize, refusal: QueryRefusal) -> Rep
         Outcome::Refused(cause) => Reply::Book(cause),
         Outcome::Built(_) => Reply::Question(refusal),
     }
-}
-
-// The lesser of two numbers.
-fn least(a: usize, b: usize) -> usize
-    ensures { λ r. ⌜ (r ≤ b) × ((n : ℕ) → n ≤ b → leb n r ≡ leb n a) ⌝ }
-{
-    if a < b {
-        return a;
-    }
-    b
 }
 
 // The reply to a question that is not refused, by the tables of the book, built in the lent ones.

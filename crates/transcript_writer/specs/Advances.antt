@@ -44,12 +44,6 @@ module _ (hs ms : List ℕ) where
     pub numbers : k′ + most ≤ 18446744073709551615
     pub stops : most ≡ 0 → Stopped k′ (drop read q) (length out - written)
 
--- the lesser of two numbers
-pub record Least (a b r : ℕ) : Type 0 where
-  pub left : r ≤ a
-  pub right : r ≤ b
-  pub either : (r ≡ a) ⊎ (r ≡ b)
-
 -- room and numbers for so many lines; none where there is no more question, no room or no number
 pub record LinesIn (more : Bool) (room k count : ℕ) : Type 0 where
   pub few : count ≤ 1024

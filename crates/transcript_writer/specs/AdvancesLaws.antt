@@ -10,6 +10,7 @@ use lib.Dec.{eqb}
 use lib.ListN.{length, getD, take, drop, length-append, length-drop}
 use lib.Seq.{slice, drop-drop, take-all, take-append-le, length-take-le}
 use Rattle.io.specs.Counts.{Counts}
+use Rattle.byte_parts.specs.Least.{Least}
 use Rattle.query_causes.specs.Query.{Answered}
 use Rattle.query_causes.specs.Input.{links-of, Broken, is-whole}
 use Rattle.transcript_lines.specs.Lines.{answer-line}
@@ -25,7 +26,7 @@ use Rattle.line_writer.specs.Puts.{Puts}
 use Rattle.line_writer.specs.PutsLaws.{puts-none, puts-then, puts-front, puts-length}
 use Rattle.line_writer.specs.Said.{answer-lines, WritesLines}
 use Rattle.transcript_writer.specs.declared.block.Reached.{Reached}
-use Rattle.transcript_writer.specs.Advances.{AnswersBlock, Advances, Advanced, Least, LinesIn}
+use Rattle.transcript_writer.specs.Advances.{AnswersBlock, Advances, Advanced, LinesIn}
 
 -- the lesser of two numbers, or three times it, as how many of a list to take
 take-past : (s : List ℕ) (m n : ℕ) → (m ≡ n) ⊎ (length s ≤ m) → m ≤ n → take m s ≡ take n s

@@ -4,8 +4,9 @@ ghost use lib.ListN.{length};
 ghost use lib.Seq.{slice};
 ghost use Rattle.line_writer.specs.Puts.{Puts};
 ghost use Rattle.transcript_writer.specs.Opened.{heads-in, moves-in};
-ghost use Rattle.transcript_writer.specs.Advances.{AnswersBlock, Advances, Least, LinesIn};
+ghost use Rattle.transcript_writer.specs.Advances.{AnswersBlock, Advances, LinesIn};
 use crate::opening::Tables;
+use byte_parts::least;
 use line_writer::answer_lines;
 use line_writer::is_whole;
 use query_answerer::ask_all;
@@ -39,16 +40,6 @@ pub fn answer_block(
         written: reached.written,
         left: is_whole(&input[..kept]),
     }
-}
-
-// The lesser of two numbers.
-fn least(a: usize, b: usize) -> usize
-    ensures { λ r. ⌜ Least a b r ⌝ }
-{
-    if a < b {
-        return a;
-    }
-    b
 }
 
 // How far the questions are answered: the number of the next one, and how many bytes are read and written.

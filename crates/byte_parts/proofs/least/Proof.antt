@@ -2,8 +2,8 @@
 use borrow.Author.Needs.{needs}
 use mathlib.Core.Logic.{inl, inr}
 use mathlib.Core.Path.{refl}
-use Rattle.transcript_writer.proofs.block.least.Statement.{statement}
-use Rattle.transcript_writer.proofs.block.least.Tie as tie
+use Rattle.byte_parts.proofs.least.Statement.{statement}
+use Rattle.byte_parts.proofs.least.Tie as tie
 
 pub least-spec : {M : Type 1} → statement M
 least-spec =
