@@ -1,11 +1,11 @@
 -- Causes 9 to 11, of a book and of bytes: when a book is accepted, and when it is built in lent tables of some lengths, with what a build writes there.
 -- The tables, and so these causes, are those of the book that is built from.
 use mathlib.Core.Bool.{_&&_}
-use mathlib.Core.List.{List, _++_}
+use mathlib.Core.List.{List}
 use mathlib.Core.Path.{_≡_}
 use Prim.Native.Nat.{ℕ, _*_}
 use lib.Dec.{leb}
-use lib.ListN.{length, drop}
+use lib.ListN.{length}
 use Rattle.roles.specs.Rule.{Book}
 use Rattle.tables.specs.Tables.{initial-states, transitions, state-count, numbers}
 use Rattle.base.specs.Result.{Result, demand, and-then}

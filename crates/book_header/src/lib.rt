@@ -1,7 +1,6 @@
 // The header of a book, its first eight bytes, and the tests of causes 1 to 4, each alone.
 ghost use mathlib.Core.Bool.{_&&_};
 ghost use mathlib.Core.Path.{_≡_};
-ghost use Prim.Native.Nat.{_≤_};
 ghost use lib.Dec.{leb, eqb};
 ghost use lib.ListN.{length, getD, take};
 ghost use Rattle.words.specs.Word.{word as word-of};

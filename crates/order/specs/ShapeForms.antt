@@ -1,7 +1,7 @@
 -- The shape of a rule by its form, where no inner role has the right role's name; and the shape of the inverse of a rule: the same row,
 -- inverted, between the states turned round.
 use mathlib.Core.Bool.{false, cond}
-use mathlib.Core.List.{List, [], _∷_, _++_, head-eq-of-cons-eq, List·Memᴰ}
+use mathlib.Core.List.{[], _∷_, _++_, head-eq-of-cons-eq, List·Memᴰ}
 use mathlib.Core.List.{List·Memᴰ·append-cases, List·Memᴰ·not-nil, List·Memᴰ·eq-of-singleton, Memᴰ·append-right}
 use mathlib.Core.List.List·Memᴰ.{List·Memᴰ·head, List·Memᴰ·tail}
 use mathlib.Core.Logic.{_⊎_, inl, inr}

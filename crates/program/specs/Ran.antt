@@ -8,7 +8,7 @@ use lib.ListN.{length, take}
 use Rattle.roles.specs.Role.{Chain}
 use Rattle.roles.specs.Rule.{Book}
 use Rattle.base.specs.Result.{Result}
-use Rattle.base.specs.Result.Result.{refused, ok}
+use Rattle.base.specs.Result.Result.{refused}
 use Rattle.book_causes.specs.Accepted.{built, Building}
 use Rattle.query_causes.specs.Input.{Broken, is-whole}
 use Rattle.query_correctness.specs.Reply.{Decided}

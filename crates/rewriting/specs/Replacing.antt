@@ -5,7 +5,6 @@ use mathlib.Core.List.{Memᴰ·append-left, Memᴰ·append-right, Memᴰ·map, M
 use mathlib.Core.Logic.{_⊎_, inl, inr}
 use mathlib.Core.Path.{_≡_, sym, ap, _∙_}
 use mathlib.Mathlib.Logic.Relation.{ReflTransGenᴰ, ReflTransGenᴰ·trans, ReflTransGenᴰ·single, ReflTransGenᴰ·lift}
-use mathlib.Mathlib.Logic.Relation.ReflTransGenᴰ.{ReflTransGenᴰ·refl}
 use Prim.Native.Nat.{ℕ}
 use Rattle.roles.specs.Role.{Chain, inv, inv-chain}
 use Rattle.roles.specs.RoleLaws.{inv-chain-one, inv-chain-cons, inv-chain-append}

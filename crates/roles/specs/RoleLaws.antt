@@ -1,6 +1,6 @@
 -- Laws of roles and chains: the inverse undoes itself and keeps the name; the test of two chains is equality.
 use mathlib.Core.Bool.{Bool, true, false, false≢true}
-use mathlib.Core.List.{List, [], _∷_, _++_, map, reverse-cons, append-nil, append-assoc}
+use mathlib.Core.List.{[], _∷_, _++_, map, reverse-cons, append-nil, append-assoc}
 use mathlib.Core.Path.{_≡_, refl, sym, ap, ap₂, _∙_}
 use Prim.Native.Nat.{ℕ, suc, _+_, _-_, _*_, _<_, _≤_}
 use native.Mathlib.Omega.{arith}

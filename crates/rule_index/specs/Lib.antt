@@ -4,6 +4,7 @@ pub mod RuleIndex
 pub mod ShapeNumbers
 pub mod Filling
 pub mod FillingLaws
+pub mod LinkingLaws
 pub mod Indexes
 pub mod IndexesLaws
 pub mod RuleIndexLaws

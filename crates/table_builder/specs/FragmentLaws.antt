@@ -19,7 +19,7 @@ use Rattle.table_laying.specs.Laid.{Laid, laid-both}
 use Rattle.table_laying.specs.Fragment.{own-letters, laid-plain, laid-symmetric, fragment-over, by-fuel}
 use Rattle.table_writer.specs.Adding.{Small, Lays, Added, begun, letters-place, letters-moves}
 use Rattle.table_writer.specs.AddingLaws.{letters-added}
-use Rattle.table_builder.specs.Lay.{Ready, Lettered, Lain, Fragment-of, Fragment-laid, Rows-laid}
+use Rattle.table_builder.specs.Lay.{Ready, Lettered, Fragment-of, Fragment-laid, Rows-laid}
 use Rattle.table_builder.specs.Memo.{size-in, stored, Sound, Held, Memo}
 use Rattle.table_builder.specs.MemoLaws.{laid-after, memo-step, memo-lettered, memo-kept}
 use Rattle.table_writer.specs.declared.Place.{Place}
@@ -73,9 +73,8 @@ module _ {ix : List ℕ} {role : ℕ} {p : Place} {memo m : List ℕ} (a : Ready
       let c = b (a .rules) (a .index) in
       record { rules = a .rules; index = a .index; role = a .role; small = c .small; memo = memo-lettered c same (a .memo) }
 
-  pub ready-laid : {size : List Rule → ℕ → ℕ} {ts : List Rule → ℕ → List Transition} {level : ℕ} {v : Place} {l : List ℕ} {q : Place} {memo′ n : List ℕ}
-      → Lain size ts ix level v l q memo′ n → (s : ℕ) → s < 128 → Ready ix s q memo′ n
-  ready-laid b s h = record { rules = a .rules; index = a .index; role = h; small = b .small; memo = b .memo }
+  pub ready-laid : {q : Place} {memo′ n : List ℕ} → Small q → Memo ix memo′ q n → (s : ℕ) → s < 128 → Ready ix s q memo′ n
+  ready-laid b k s h = record { rules = a .rules; index = a .index; role = h; small = b; memo = k }
 
   pub ready-added : {ts : List Transition} {v : Place} {l memo′ : List ℕ} {q : Place} {n : List ℕ} → Added ts v l q n → length n ≡ length l → Memo ix memo′ v l
       → (s : ℕ) → s < 128 → Ready ix s q memo′ n

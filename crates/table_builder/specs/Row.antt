@@ -1,5 +1,4 @@
 -- The row of a rule as the code takes it from the index, and what it says of the shape that the rule adds to a fragment.
-use mathlib.Core.Bool.{Bool, true, false}
 use mathlib.Core.List.{List}
 use mathlib.Core.Path.{_≡_}
 use Prim.Native.Nat.{ℕ, zero, suc, _+_, _<_, _≤_}

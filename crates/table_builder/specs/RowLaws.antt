@@ -1,7 +1,7 @@
 -- The row of a rule is found in the index; and how far laying it has come: the inner roles from j on are left, from the state reached.
 use mathlib.Core.Bool.{Bool, true, false}
 use mathlib.Core.List.{List, [], _∷_}
-use mathlib.Core.Path.{_≡_, refl, sym, ap, _∙_, subst}
+use mathlib.Core.Path.{_≡_, refl, sym, ap, _∙_}
 use Prim.Native.Nat.{ℕ, zero, suc, _+_, _-_, _*_, _<_, _≤_}
 use native.Mathlib.Omega.{arith}
 use borrow.Author.Tests.{eq-eqb, ne-eqb}
@@ -10,14 +10,14 @@ use Rattle.base.specs.Part.{part, getD-part, length-part}
 use Rattle.roles.specs.Role.{Chain, name, inv}
 use Rattle.roles.specs.RoleLaws.{name-inv, inv-below, length-turn, getD-inv-chain}
 use Rattle.roles.specs.Rule.{Rule}
-use Rattle.order.specs.Shape.{Shape, shape}
+use Rattle.order.specs.Shape.{Shape}
 use Rattle.order.specs.Shape.Shape.{transitive, symmetric, row}
 use Rattle.order.specs.ShapeForms.{other, turned}
 use Rattle.tables.specs.Tables.{Transition, silent, state, row-size, row-transitions, size-of, transitions-of}
 use Rattle.table_laying.specs.Own.{facing}
 use Rattle.table_laying.specs.Left.{RowLeft, row-left-start, row-left-next, row-left-end}
 use Rattle.rule_index.specs.RuleLinks.{rule}
-use Rattle.rule_index.specs.RuleIndex.{Indexed, Recorded, right-in, kind-in, from-in, to-in, size-in, inner-in, level-in, end-at, shape-by}
+use Rattle.rule_index.specs.RuleIndex.{Indexed, Recorded, right-in, kind-in, from-in, to-in, size-in, level-in, end-at, shape-by}
 use Rattle.rule_index.specs.RuleIndexLaws.{Here}
 use Rattle.rule_index.specs.Facing.{Shape-laid, row-alone, no-row, inner-some, inner-low}
 use Rattle.table_writer.specs.Adding.{Small, Lays, Added, Adds, one}

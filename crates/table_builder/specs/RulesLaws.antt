@@ -1,10 +1,8 @@
 -- The rows of a role's rules laid one rule after another: none past the last; that of rule k, then those of the rules after it.
-use mathlib.Core.List.{List, [], _∷_}
+use mathlib.Core.List.{List, _∷_}
 use mathlib.Core.Path.{_≡_, refl, sym, ap, _∙_}
 use Prim.Native.Nat.{ℕ, _<_, _≤_}
 use lib.ListN.{length, drop}
-use Rattle.roles.specs.Rule.{Rule}
-use Rattle.order.specs.Shape.{Shape}
 use Rattle.tables.specs.Tables.{own-shapes, size-of, transitions-of}
 use Rattle.table_laying.specs.Own.{facing}
 use Rattle.table_laying.specs.Laid.{laid-rows-end}

@@ -4,8 +4,7 @@ use mathlib.Core.List.{List, []}
 use mathlib.Core.Path.{_≡_, refl, sym, ap, _∙_}
 use Prim.Native.Nat.{ℕ, _*_, _≤_}
 use native.Mathlib.Omega.{arith}
-use lib.ListN.{length, take, drop, length-append, length-drop}
-use lib.Seq.{take-append-seam}
+use lib.ListN.{length, take}
 use Rattle.base.specs.Writing.{over}
 use Rattle.base.specs.WritingLaws.{over-length, over-front}
 use Rattle.roles.specs.Rule.{Book}

@@ -8,7 +8,7 @@ use lib.ListN.{length, length-set}
 use Rattle.roles.specs.Rule.{Rule}
 use Rattle.rule_index.specs.RuleIndex.{right-in, kind-in}
 use Rattle.rule_index.specs.Filling.{Linkable, Linking}
-use Rattle.rule_index.specs.FillingLaws.{linking-none, role-small, kind-small, name-small, linking-more}
+use Rattle.rule_index.specs.LinkingLaws.{linking-none, role-small, kind-small, name-small, linking-more}
 use Rattle.rule_index.proofs.link.Statement.{statement}
 use Rattle.rule_index.proofs.link.Tie as tie
 

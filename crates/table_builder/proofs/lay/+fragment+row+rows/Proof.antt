@@ -10,7 +10,7 @@ use denote.Ref.{now}
 use Rattle.roles.specs.Role.{name}
 use Rattle.roles.specs.RoleLaws.{name-inv, inv-below}
 use Rattle.rule_index.specs.RuleIndex.{level-in}
-use Rattle.rule_index.specs.RuleIndexLaws.{at-start, later}
+use Rattle.rule_index.specs.RuleIndexLaws.{at-start}
 use Rattle.table_builder.specs.FragmentLaws.{over-laid, again-held, again-laid, lettered-by, mirrors-by, ready-lettered, ready-laid, ready-added, fragment-after, fragment-laid}
 use Rattle.table_builder.specs.RowLaws.{Rowing, row-none, rowing-start, rowing-added, rowing-next, rowing-end}
 use Rattle.table_builder.specs.RulesLaws.{Walking, walking-start, walking-later, walking-next, walking-end}
@@ -136,13 +136,14 @@ fragment-rows-requires t c κs =
 fragment-rows-requires-2 : (t : ℕ) → fragment-lts.Need-rows-requires-2 (fragment-claims t) (fragment-at t) fragment.Post
 fragment-rows-requires-2 t c κs =
     let inverse = c .before .before .inverse in
+    let own = c .before .before .before .before .before .before .before .before .rows in
     let first = c .before .before .before .before .before .before .before .before .before .before .before in
     let symmetric = first .before .before .before .before .before .before in
     let entry = symmetric .before .before .before .before .before .before .before in
     let pre = entry .pre in
     let args = entry .args in
     let mirrors = mirrors-by (pre .1) (symmetric .has-kind .ensures) (first .first-of .ensures) (c .before .before .before .mirror-of .ensures) in
-    (omega (arith, pre .0, ap (level-in (args .index .now)) (ap name (inverse .ensures) ∙ name-inv (args .role))), (ready-laid (pre .1) (c .before .before .before .before .before .before .before .before .rows .ensures) _ (rw (inverse .ensures) (inv-below _ 64 (pre .1 .role))), (λ ρs i. rw (inverse .ensures) (mirrors .here ρs i), symmetric .before .before .before .if1 .left)))
+    (omega (arith, pre .0, ap (level-in (args .index .now)) (ap name (inverse .ensures) ∙ name-inv (args .role))), (ready-laid (pre .1) (own .ensures .small) (own .ensures .memo) _ (rw (inverse .ensures) (inv-below _ 64 (pre .1 .role))), (λ ρs i. rw (inverse .ensures) (mirrors .here ρs i), symmetric .before .before .before .if1 .left)))
 
 fragment-keep-requires : (t : ℕ) → fragment-lts.Need-keep-requires (fragment-claims t) (fragment-at t) fragment.Post
 fragment-keep-requires t c κs =
