@@ -1,4 +1,4 @@
--- The lesser of two numbers, and that a test of it is one of the first number where the second passes it.
+-- The lesser of two numbers. What is at most the second is at most the lesser exactly where it is at most the first.
 use mathlib.Core.Logic.{_⊎_, inl, inr}
 use mathlib.Core.Path.{_≡_, sym, ap, _∙_}
 use Prim.Native.Nat.{ℕ, _≤_}
