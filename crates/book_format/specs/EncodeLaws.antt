@@ -8,7 +8,7 @@ use native.Mathlib.Omega.{arith}
 use borrow.Author.Tests.{le-leb, eqb-true}
 use lib.ListN.{length, getD, take, drop, length-append}
 use lib.Seq.{take-append-seam, drop-append-seam, take-at, take-suc, take-add, take-all}
-use Rattle.base.specs.Every.{Every, every-tail}
+use Rattle.base.specs.Every.{Every, every-nil, every-cons, every-tail, every-append}
 use Rattle.base.specs.Part.{length-part}
 use Rattle.base.specs.Result.Result.{ok}
 use Rattle.base.specs.ResultLaws.{demand-test, demand-rest}
@@ -16,7 +16,7 @@ use Rattle.roles.specs.Role.{same-chain}
 use Rattle.roles.specs.RoleLaws.{same-chain-sound}
 use Rattle.roles.specs.Rule.{Rule, Book}
 use Rattle.words.specs.Word.{word}
-use Rattle.book_format.specs.Format.{front, one-rule, rules-from, decode, mark, size-fits, mark-fits, version-fits, counts-fit}
+use Rattle.book_format.specs.Format.{front, one-rule, rules-from, named, decode, mark, size-fits, mark-fits, version-fits, counts-fit}
 use Rattle.book_format.specs.Format.Front.{whole}
 use Rattle.book_format.specs.Place.{size-at, next-at, rule-at, whole-at, rule-place, first-rules}
 use Rattle.book_format.specs.FormatLaws.{Whole, whole-facts}
@@ -32,7 +32,7 @@ pub length-rule-bytes : (ρ : Rule) → length (rule-bytes ρ) ≡ 2 + length (�
 unfolding rule-bytes
 length-rule-bytes ρ = omega arith
 
-rules-bytes-append : (ρs σs : List Rule) → rules-bytes (ρs ++ σs) ≡ rules-bytes ρs ++ rules-bytes σs
+pub rules-bytes-append : (ρs σs : List Rule) → rules-bytes (ρs ++ σs) ≡ rules-bytes ρs ++ rules-bytes σs
 unfolding rules-bytes
 rules-bytes-append [] σs = refl
 rules-bytes-append (ρ ∷ ρs) σs = rw (rules-bytes-append ρs σs, append-assoc) refl
@@ -98,7 +98,7 @@ module _ (b : Book) where
 
 -- what is encoded decodes to itself
 module _ {b : Book} (f : Encodable b) where
-  encode-most : length (encode b) ≤ 2568
+  pub encode-most : length (encode b) ≤ 2568
   encode-most = omega (arith, length-encode b, rules-bytes-most (b .rules) (f .rules), f .rules-most)
 
   sized : size-fits (encode b) ≡ true
@@ -116,7 +116,7 @@ module _ {b : Book} (f : Encodable b) where
   pub decode-front : {s : List ℕ} (rest : List ℕ) {size : ℕ} → s ≡ encode b ++ rest → size ≡ length (encode b) → decode (take size s) ≡ ok b
   decode-front {s} rest {size} e k = rw (e, take-at (encode b) rest size (sym k)) decode-encode
 
--- a whole rule at a place: its bytes are there
+-- a whole rule at a place: its bytes are there, and it is within the bounds
 rule-spelled : (s : List ℕ) (at : ℕ) → whole-at s at ≡ true → take (next-at s at) s ≡ take at s ++ rule-bytes (rule-at s at)
 unfolding rule-bytes rule-at
 rule-spelled s at h =
@@ -133,6 +133,13 @@ rule-spelled s at h =
     )
     refl
 
+rule-encodable : (s : List ℕ) (n at : ℕ) → whole-at s at ≡ true → named n (rule-at s at .right ∷ rule-at s at .left) ≡ true → EncodableRule n (rule-at s at)
+unfolding rule-at
+rule-encodable s n at h d =
+    let w : Whole s at = whole-facts s at h in
+    let e : length (rule-at s at .left) ≡ size-at s at = length-part s (at + 2) (size-at s at) (w .fits) in
+    record { some = rw e (w .some); few = rw e (w .few); declared = d }
+
 -- and so the first k rules
 rules-spelled : (s : List ℕ) (k : ℕ) → ((j : ℕ) → j < k → whole-at s (rule-place s j) ≡ true)
     → take (rule-place s k) s ≡ take 8 s ++ rules-bytes (first-rules s k)
@@ -141,10 +148,29 @@ rules-spelled s zero h = sym (append-nil (take 8 s))
 rules-spelled s (suc k) h =
     rw (rule-spelled s (rule-place s k) (h k (omega arith)), rules-spelled s k (λ j p. h j (omega arith)), rules-bytes-last, append-assoc) refl
 
+rules-encodable : (s : List ℕ) (n k : ℕ) → ((j : ℕ) → j < k → whole-at s (rule-place s j) ≡ true)
+    → ((j : ℕ) → j < k → named n (rule-at s (rule-place s j) .right ∷ rule-at s (rule-place s j) .left) ≡ true)
+    → Every (EncodableRule n) (first-rules s k)
+unfolding first-rules
+rules-encodable s n zero h d = every-nil (EncodableRule n)
+rules-encodable s n (suc k) h d =
+    every-append (EncodableRule n) (first-rules s k) (rules-encodable s n k (λ j p. h j (omega arith)) (λ j p. d j (omega arith)))
+    (every-cons (EncodableRule n) (rule-encodable s n (rule-place s k) (h k (omega arith)) (d k (omega arith))) (every-nil (EncodableRule n)))
+
 -- bytes that decode to a book
 module _ (s : List ℕ) {b : Book} (h : decode s ≡ ok b) where
   d : Decoded s b
   d = decoded s b h
+
+  -- the book is within the bounds
+  pub decode-encodable : Encodable b
+  decode-encodable =
+      record {
+        some-name = d .some-name;
+        names-most = d .names-most;
+        rules-most = rw (d .count) (d .count-most);
+        rules = rw (d .rules) (rules-encodable s (b .names) (word s 6) (d .whole) (d .named));
+      }
 
   mark-kept : mark-fits s ≡ true
   unfolding decode
