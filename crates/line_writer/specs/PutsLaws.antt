@@ -9,7 +9,7 @@ use Rattle.io.specs.Counts.{Counts}
 use Rattle.line_writer.specs.Puts.{Puts}
 
 -- what is written ends where it should, and the rest is as it was
-module _ (out text out′ : List ℕ) (at end : ℕ) (p : Puts out at text out′ end) where
+module _ {out text out′ : List ℕ} {at end : ℕ} (p : Puts out at text out′ end) where
   front : List ℕ
   front = take at out ++ text
 
@@ -53,17 +53,17 @@ puts-then {out} {x} {y} {out₁} {out₂} {at} {middle} {end} p q =
     let both : middle + length y ≡ at + length (x ++ y) = omega arith in
     let rest : drop (middle + length y) out₁ ≡ drop (at + length (x ++ y)) out =
     sym (drop-drop (length y) middle out₁)
-    ∙ ap (drop (length y)) (puts-rest out x out₁ at middle p)
+    ∙ ap (drop (length y)) (puts-rest p)
     ∙ drop-drop (length y) middle out
     ∙ ap (λ (k : ℕ). drop k out) both in
     record {
       bytes =
           q .bytes
-          ∙ ap₂ (λ (a b : List ℕ). a ++ (y ++ b)) (puts-front out x out₁ at middle p) rest
+          ∙ ap₂ (λ (a b : List ℕ). a ++ (y ++ b)) (puts-front p) rest
           ∙ append-assoc (take at out) x (y ++ drop (at + length (x ++ y)) out)
           ∙ ap (λ (r : List ℕ). take at out ++ r) (sym (append-assoc x y (drop (at + length (x ++ y)) out)));
       ends = omega arith;
-      fits = rw (← puts-length out x out₁ at middle p) (q .fits);
+      fits = rw (← puts-length p) (q .fits);
     }
 
 -- nothing put, and a text put byte by byte
@@ -77,17 +77,17 @@ puts-byte out at b h =
     let one : suc at ≡ at + 1 = omega arith in
     record { bytes = set-split out at b h ∙ ap (λ (k : ℕ). take at out ++ (b ∷ drop k out)) one; ends = refl; fits = omega arith }
 
-pub puts-next : (out text out₁ : List ℕ) (at i : ℕ) → at + length text ≤ length out → i < length text → Puts out at (take i text) out₁ (at + i)
+pub puts-next : {out : List ℕ} (text : List ℕ) {out₁ : List ℕ} {at : ℕ} (i : ℕ) → at + length text ≤ length out → i < length text → Puts out at (take i text) out₁ (at + i)
     → Puts out at (take (i + 1) text) (set out₁ (at + i) (getD text i 0)) (at + (i + 1))
-puts-next out text out₁ at i long h p =
-    let inside : at + i < length out₁ = rw (puts-length out (take i text) out₁ at (at + i) p) (omega (arith, long, h)) in
+puts-next {out} text {out₁} {at} i long h p =
+    let inside : at + i < length out₁ = rw (puts-length p) (omega (arith, long, h)) in
     let one : i + 1 ≡ suc i = omega arith in
     let end : at + i + 1 ≡ at + (i + 1) = omega arith in
     rw (one, take-suc text i 0 h, ← one, ← end)
     (puts-then p (puts-byte out₁ (at + i) (getD text i 0) inside))
 
-pub puts-all : (out text out₁ : List ℕ) (at i : ℕ) → length text ≤ i → Puts out at (take i text) out₁ (at + i) → Puts out at text out₁ (at + i)
-puts-all out text out₁ at i h p = rw (take-all i text h) at p
+pub puts-all : {out : List ℕ} (text : List ℕ) {out₁ : List ℕ} {at : ℕ} (i : ℕ) → length text ≤ i → Puts out at (take i text) out₁ (at + i) → Puts out at text out₁ (at + i)
+puts-all text i h p = rw (take-all i text h) at p
 
 -- the same text under another name
 pub puts-as : {out x y out′ : List ℕ} {at end : ℕ} → Puts out at x out′ end → x ≡ y → Puts out at y out′ end
@@ -96,5 +96,5 @@ puts-as {out} {x} {y} {out′} {at} {end} p e = subst (λ (t : List ℕ). Puts o
 -- what is put at the front can be lent as the front of the buffer
 pub puts-counts : {out text out′ : List ℕ} {at end : ℕ} → Puts out at text out′ end → Counts end out′
 puts-counts {out} {text} {out′} {at} {end} p =
-    let within : end ≤ length out′ = rw (puts-length out text out′ at end p) (p .fits) in
+    let within : end ≤ length out′ = rw (puts-length p) (p .fits) in
     (within, sym (length-take-le end out′ within))

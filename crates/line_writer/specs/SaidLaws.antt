@@ -87,7 +87,7 @@ module _ {out bytes : List ℕ} {at k : ℕ} where
         room = p .room;
         within = omega arith;
         short = omega (arith, p .short, q .short);
-        same = puts-length _ _ _ _ _ (q .puts) ∙ p .same;
+        same = puts-length (q .puts) ∙ p .same;
         puts = puts-as (puts-then (p .puts) (q .puts)) (lines-next k bytes i h);
       }
 

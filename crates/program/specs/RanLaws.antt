@@ -135,7 +135,7 @@ module _ {hs ms q q′ q″ out out′ : List ℕ} {k kept end turns : ℕ} {lef
       let block : List ℕ = drop kept (take end q′) in
       let front : take end q′ ≡ take kept q ++ block =
       sym (take-append-drop kept (take end q′)) ∙ ap (λ (f : List ℕ). f ++ block) (take-take kept end q′ (r .after) ∙ r .front) in
-      let rest : take (p .kept) q″ ≡ a .rest = puts-front q′ (a .rest) q″ 0 (p .kept) (a .keeps) in
+      let rest : take (p .kept) q″ ≡ a .rest = puts-front (a .keeps) in
       rw rest (serving-next s some block (rw front at (a .block)) (by-reason goes) (a .left))
     where
       by-reason : (left ≡ true) ⊎ (kept < end) → (0 < length (drop kept (take end q′))) ⊎ (k < p .number)

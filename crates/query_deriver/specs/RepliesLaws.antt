@@ -31,9 +31,9 @@ use Rattle.query_deriver.specs.declared.Reply.the-variants.{Question, Bo
 use Rattle.query_deriver.specs.Replies.{says, Replies}
 
 -- what the tables answer, as a reply
-pub replied-as : (h m : List ℕ) (r : ℕ) (w : Chain) (a v : Answer) → Answered h m r w (answer-says a) → a ≡ v → (x : Reply)
+pub replied-as : (h m : List ℕ) (r : ℕ) (w : Chain) {a v : Answer} → Answered h m r w (answer-says a) → a ≡ v → (x : Reply)
     → answer-says v ≡ says x → Answered h m r w (says x)
-replied-as h m r w a v t e x f = subst (Answered h m r w) (ap answer-says e ∙ f) t
+replied-as h m r w t e x f = subst (Answered h m r w) (ap answer-says e ∙ f) t
 
 -- what is found of a question for the names that a book says it has
 pub found : (s : List ℕ) (n r : ℕ) (w : Chain) → n ≡ getD s 5 0 → (x y : Found) → found-says x ≡ question n r w → x ≡ y
@@ -55,41 +55,39 @@ replies-kept s h m r w c v q a e =
       moves = rw p (sym (kept (built s (length h) (length m)) c v moves-of m));
     }
 
-module _ (s h m h′ m′ : List ℕ) where
-  -- what a build on other tables says of those lent, if both have as many numbers as any book needs, or the same
+-- a build on other tables says what one on those lent does, if both have as many numbers as any book needs, or the same
+same-built : (s h m : List ℕ) {heads moves a b : ℕ} → length h ≡ a → length m ≡ b → Least heads 64 a → Least moves 15360 b
+    → built s (length h) (length m) ≡ built s heads moves
+same-built s h m {heads} {moves} {a} {b} i j f g = rw (i, j) (built-enough a b heads moves (least-test f) (least-test g) s)
+
+module _ {s h m h′ m′ : List ℕ} where
   module _ {heads moves a b : ℕ} (i : length h ≡ a) (j : length m ≡ b) (f : Least heads 64 a) (g : Least moves 15360 b) (x : QueryRefusal) where
-    same : built s (length h) (length m) ≡ built s heads moves
-    same = rw (i, j) (built-enough a b heads moves (least-test f) (least-test g) s)
-
-    pub says-book : (y : BuildRefusal) → Builds s h m h′ m′ (Refused y)
+    pub says-book : {y : BuildRefusal} → Builds s h m h′ m′ (Refused y)
         → says (Refused-book y) ≡ and-then (built s heads moves) (λ _. refused (query-cause x) 0)
-    says-book y p = rw (sym same ∙ refused-by s h m h′ m′ y p) refl
+    says-book p = rw (sym (same-built s h m i j f g) ∙ refused-by p) refl
 
-    pub says-question : (c : Counts) → Builds s h m h′ m′ (Built c)
+    pub says-question : {c : Counts} → Builds s h m h′ m′ (Built c)
         → says (Question x) ≡ and-then (built s heads moves) (λ _. refused (query-cause x) 0)
-    says-question c p = rw (sym same ∙ own s h m h′ m′ c p .accepts) refl
+    says-question p = rw (sym (same-built s h m i j f g) ∙ own p .accepts) refl
 
-  module _ (r : ℕ) (w : Chain) (q : question (getD s 5 0) r w ≡ ok tt) where
-    put-to : posed s (length h) (length m) r w ≡ built s (length h) (length m)
-    put-to = posed-fits s (length h) (length m) r w q
-
-    pub replies-settled : (c : Counts) → Builds s h m h′ m′ (Built c)
+  module _ {r : ℕ} {w : Chain} (q : question (getD s 5 0) r w ≡ ok tt) where
+    pub replies-settled : {c : Counts} → Builds s h m h′ m′ (Built c)
         → (a : Reply) → Answered (take (c .names) h′) (take (3 * c .transitions) m′) r w (says a) → Replies s h m r w h′ m′ a
-    replies-settled c p a t =
-        let book = own s h m h′ m′ c p in
-        let heads = written-heads s h m h′ m′ c p in
-        let moves = written-moves s h m h′ m′ c p in
+    replies-settled p a t =
+        let book = own p in
+        let heads = written-heads p in
+        let moves = written-moves p in
         let tables : Answered (heads-of (book .book)) (moves-of (book .book)) r w (says a) = rw (heads, moves) at t in
         record {
           answer = settled (book .book) (book .book) (says a) (building s (length h) (length m) (book .book) (book .accepts)) (decided s (length h) (length m) (book .book) (book .accepts) r w (says a) tables);
-          heads = rw put-to (p .heads);
-          moves = rw put-to (p .moves);
+          heads = rw (posed-fits s (length h) (length m) r w q) (p .heads);
+          moves = rw (posed-fits s (length h) (length m) r w q) (p .moves);
         }
 
-    pub replies-refused : (x : BuildRefusal) → Builds s h m h′ m′ (Refused x) → Replies s h m r w h′ m′ (Refused-book x)
-    replies-refused x p =
+    pub replies-refused : {x : BuildRefusal} → Builds s h m h′ m′ (Refused x) → Replies s h m r w h′ m′ (Refused-book x)
+    replies-refused {x} p =
         record {
-          answer = refuses (build-cause x) (build-value x) (refused-by s h m h′ m′ x p);
-          heads = rw put-to (p .heads);
-          moves = rw put-to (p .moves);
+          answer = refuses (build-cause x) (build-value x) (refused-by p);
+          heads = rw (posed-fits s (length h) (length m) r w q) (p .heads);
+          moves = rw (posed-fits s (length h) (length m) r w q) (p .moves);
         }

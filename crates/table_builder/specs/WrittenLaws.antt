@@ -32,17 +32,17 @@ pub record Counted (s h m : List ℕ) (c : Counts) : Type 0 where
 counted-none : Book
 counted-none = record { names = 0; rules = [] }
 
-module _ (s h m h′ m′ : List ℕ) where
-  pub counted : (c : Counts) → Builds s h m h′ m′ (Built c) → Counted s h m c
-  counted c p = by-result (built s (length h) (length m)) refl (p .answer)
+module _ {s h m h′ m′ : List ℕ} where
+  pub counted : {c : Counts} → Builds s h m h′ m′ (Built c) → Counted s h m c
+  counted {c} p = by-result (built s (length h) (length m)) refl (p .answer)
     where
       by-result : (r : Result Book) → built s (length h) (length m) ≡ r → ok c ≡ map-result counts-of r → Counted s h m c
       by-result (refused cause value) e f = absurd (refused-ok cause value c (sym f))
       by-result (ok b) e f = record { book = b; accepts = e; same = ok-injective c (counts-of b) f }
 
-  module _ (c : Counts) (p : Builds s h m h′ m′ (Built c)) where
+  module _ {c : Counts} (p : Builds s h m h′ m′ (Built c)) where
     pub own : Counted s h m c
-    own = counted c p
+    own = counted p
 
     long-heads : own .book .names ≤ length h
     long-heads = enough-heads s (length h) (length m) (own .book) (own .accepts)
@@ -91,8 +91,8 @@ module _ (s h m h′ m′ : List ℕ) where
         ∙ over-front (3 * c .transitions) (moves-of (own .book)) m (ap (λ (k : ℕ). 3 * k) count ∙ sym three)
 
   -- a build that is refused says why
-  pub refused-by : (x : BuildRefusal) → Builds s h m h′ m′ (Refused x) → built s (length h) (length m) ≡ refused (build-cause x) (build-value x)
-  refused-by x p = by-result (built s (length h) (length m)) (p .answer)
+  pub refused-by : {x : BuildRefusal} → Builds s h m h′ m′ (Refused x) → built s (length h) (length m) ≡ refused (build-cause x) (build-value x)
+  refused-by {x} p = by-result (built s (length h) (length m)) (p .answer)
     where
       by-result : (t : Result Book) → says (Refused x) ≡ map-result counts-of t → t ≡ refused (build-cause x) (build-value x)
       by-result (refused cause value) f = sym (ap (map-result (λ (k : Counts). counted-none)) f)

@@ -181,10 +181,10 @@ module _ {hs ms q out out′ : List ℕ} {k k′ read written most : ℕ} (a : A
           (rw same at w) .puts (omega (arith, bytes-long, batch-few, a .room, a .same, a .puts .fits), omega (arith, bytes-long, batch-few, a .numbers))
 
       pub batch-same : length out″ ≡ length out
-      batch-same = puts-length _ _ _ _ _ batch-puts ∙ a .same
+      batch-same = puts-length batch-puts ∙ a .same
 
       pub batch-written : written″ ≤ length out″
-      batch-written = omega (arith, batch-puts .fits, puts-length _ _ _ _ _ batch-puts)
+      batch-written = omega (arith, batch-puts .fits, puts-length batch-puts)
 
       pub advanced-next : {most′ : ℕ} → LinesIn (eqb (b .answered) most) (length out″ - written″) (k′ + b .answered) most′
           → Advanced hs ms k q out (k′ + b .answered) (read + b .read) written″ most′ out″
@@ -233,5 +233,5 @@ module _ (q : List ℕ) {hs ms out out′ : List ℕ} {k end size : ℕ} {p : Re
         block = rw (← take-least front q refl) (a .block);
         puts = a .puts;
         keeps = keeps;
-        left = e ∙ ap is-whole (puts-front q (slice (p .read) size q) q′ 0 kept keeps);
+        left = e ∙ ap is-whole (puts-front keeps);
       }

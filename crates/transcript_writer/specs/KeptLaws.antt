@@ -31,7 +31,7 @@ module _ {s : List ℕ} {from end : ℕ} {s′ : List ℕ} {i : ℕ} (p : Moved 
       let inside : from + i < end = omega (arith, p .order, h) in
       ap (λ (j : ℕ). getD s′ j 0) place
       ∙ sym (getD-drop i s′ from 0)
-      ∙ ap (λ (t : List ℕ). getD t from 0) (puts-rest s (take i (slice from end s)) s′ 0 i (p .puts))
+      ∙ ap (λ (t : List ℕ). getD t from 0) (puts-rest (p .puts))
       ∙ getD-drop i s from 0
       ∙ ap (λ (j : ℕ). getD s j 0) (sym place)
       ∙ sym (getD-take end s (from + i) 0 inside)
@@ -40,9 +40,9 @@ module _ {s : List ℕ} {from end : ℕ} {s′ : List ℕ} {i : ℕ} (p : Moved 
   pub moved-next : i < end - from → Moved s from end (set s′ i (getD s′ (from + i) 0)) (i + 1)
   moved-next h =
       let long : 0 + length (slice from end s) ≤ length s = omega (arith, size, p .order, p .inside) in
-      let next = puts-next s (slice from end s) s′ 0 i long (omega (arith, size, h)) (rw (zero-add i) (p .puts)) in
+      let next = puts-next {out = s} (slice from end s) {out₁ = s′} {at = 0} i long (omega (arith, size, h)) (rw (zero-add i) (p .puts)) in
       let moved : Puts s 0 (take (i + 1) (slice from end s)) (set s′ i (getD s′ (from + i) 0)) (i + 1) = rw (unmoved h) (rw (zero-add i, zero-add (i + 1)) at next) in
-      record { order = p .order; inside = p .inside; few = omega (arith, h); same = puts-length _ _ _ _ _ moved; puts = moved }
+      record { order = p .order; inside = p .inside; few = omega (arith, h); same = puts-length moved; puts = moved }
 
   pub moved-all : end - from ≤ i → Puts s 0 (slice from end s) s′ i
   moved-all h = puts-as (p .puts) (take-all i (slice from end s) (omega (arith, size, h)))

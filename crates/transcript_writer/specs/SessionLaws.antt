@@ -25,7 +25,7 @@ use Rattle.transcript_writer.specs.OpenedLaws.{opened-heads, opened-move
 
 module _ {s h m line line′ : List ℕ} {r : Opening} (o : Opens s h m line line′ r) where
   wrote : take (r .written) line′ ≡ first-line (map-result (λ (b : Book). (states-of b, count-of b)) (built s 64 15360))
-  wrote = puts-front line _ line′ 0 (r .written) (o .puts)
+  wrote = puts-front (o .puts)
 
   -- blocks answered by the tables of the opening are answered by the book
   pub opened-blocks : (b : Book) → built s 64 15360 ≡ ok b → {k k′ : ℕ} {kept lines kept′ : List ℕ} {blocks : List (List ℕ)}

@@ -44,8 +44,8 @@ loop-again c =
     let goes = c .before .before .before .before .before .before .before .before .before .ended .ensures .more (c .before .before .before .before .before .before .before .before .if2 .left) in
     let answer = c .before .before .before .before .before .answer-block .ensures in
     let room = turn .loop .inv .1 in (
-      puts-length _ _ _ _ _ (answer .keeps) ∙ read .same ∙ turn .loop .inv .0,
-      puts-length _ _ _ _ _ (answer .puts) ∙ room,
+      puts-length (answer .keeps) ∙ read .same ∙ turn .loop .inv .0,
+      puts-length (answer .puts) ∙ room,
       puts-counts (answer .keeps) .0,
       serving-block (turn .loop .inv .3) (search needs) (search needs) read goes answer (omega (arith, room)),
     )

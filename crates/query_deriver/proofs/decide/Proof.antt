@@ -7,20 +7,20 @@ use Rattle.query_deriver.proofs.decide.Statement.{statement}
 use Rattle.query_deriver.proofs.decide.Tie as tie
 
 mul-numbers : tie.Need-mul-numbers
-mul-numbers c = omega (arith, few-numbers _ _ _ _ _ _ (rw (c .before .before .outcome2 .given .1) at (c .before .before .before .before .before .before .before .before .build .ensures)))
+mul-numbers c = omega (arith, few-numbers (rw (c .before .before .outcome2 .given .1) at (c .before .before .before .before .before .before .before .before .build .ensures)))
 
 put-requires : tie.Need-put-requires
-put-requires c κs = let p = rw (c .before .before .before .before .outcome2 .given .1) at (c .before .before .before .before .before .before .before .before .before .before .build .ensures) in (names-lent _ _ _ _ _ _ p, numbers-lent _ _ _ _ _ _ p)
+put-requires c κs = let p = rw (c .before .before .before .before .outcome2 .given .1) at (c .before .before .before .before .before .before .before .before .before .before .build .ensures) in (names-lent p, numbers-lent p)
 
 returns : tie.Need-returns
 returns c =
     let entry = c .before .before .before .before .before .before .before .before .before .before .before .before .before .before in
-    replies-refused _ _ _ _ _ (entry .args .role) (entry .args .chain .now) (entry .pre) _ (rw (c .before .outcome .given .1) at (c .before .before .before .before .before .before .before .build .ensures))
+    replies-refused (entry .pre) (rw (c .before .outcome .given .1) at (c .before .before .before .before .before .before .before .build .ensures))
 
 returns-2 : tie.Need-returns-2
 returns-2 c =
     let entry = c .before .before .before .before .before .before .before .before .before .before .before .before .before .before .before .before .before .before in
-    replies-settled _ _ _ _ _ (entry .args .role) (entry .args .chain .now) (entry .pre) _ (rw (c .before .before .before .before .before .outcome2 .given .1) at (c .before .before .before .before .before .before .before .before .before .before .before .build .ensures)) _ (c .put .ensures)
+    replies-settled (entry .pre) (rw (c .before .before .before .before .before .outcome2 .given .1) at (c .before .before .before .before .before .before .before .before .before .before .before .build .ensures)) _ (c .put .ensures)
 
 pub decide-spec : {M : Type 1} → statement M
 decide-spec =

@@ -14,13 +14,13 @@ slice-aggregate-ask-2 : tie.Need-slice-aggregate-ask-2
 slice-aggregate-ask-2 c = sym (length-take-le _ _ (c .before .before .before .before .before .pre .1))
 
 returns : tie.Need-returns
-returns c = replied-as _ _ _ _ _ _ (c .before .before .ask .ensures) (c .enum-told .given .1) Yes refl
+returns c = replied-as _ _ _ _ (c .before .before .ask .ensures) (c .enum-told .given .1) Yes refl
 
 returns-2 : tie.Need-returns-2
-returns-2 c = replied-as _ _ _ _ _ _ (c .before .before .ask .ensures) (c .enum-told2 .given .1) No refl
+returns-2 c = replied-as _ _ _ _ (c .before .before .ask .ensures) (c .enum-told2 .given .1) No refl
 
 returns-3 : tie.Need-returns-3
-returns-3 c = replied-as _ _ _ _ _ _ (c .before .before .before .ask .ensures) (c .before .answer .given .1) (Question (c .before .answer .given .0 .0)) refl
+returns-3 c = replied-as _ _ _ _ (c .before .before .before .ask .ensures) (c .before .answer .given .1) (Question (c .before .answer .given .0 .0)) refl
 
 pub put-spec : {M : Type 1} → statement M
 put-spec =

@@ -10,12 +10,12 @@ use Rattle.query_deriver.proofs.refuse.Tie as tie
 returns : tie.Need-returns
 returns c =
     let entry = c .before .before .before .before .before .before .before .before .before .before .before in
-    says-book _ _ _ _ _ (length-take-le _ _ (omega arith)) (length-take-le _ _ (omega arith)) (c .before .before .before .before .before .before .before .before .before .least .ensures) (c .before .before .before .before .before .before .before .before .least2 .ensures) (entry .args .refusal) _ (rw (c .before .outcome .given .1) at (c .before .before .before .before .before .build .ensures))
+    says-book (length-take-le _ _ (omega arith)) (length-take-le _ _ (omega arith)) (c .before .before .before .before .before .before .before .before .before .least .ensures) (c .before .before .before .before .before .before .before .before .least2 .ensures) (entry .args .refusal) (rw (c .before .outcome .given .1) at (c .before .before .before .before .before .build .ensures))
 
 returns-2 : tie.Need-returns-2
 returns-2 c =
     let entry = c .before .before .before .before .before .before .before .before .before .before in
-    says-question _ _ _ _ _ (length-take-le _ _ (omega arith)) (length-take-le _ _ (omega arith)) (c .before .before .before .before .before .before .before .before .least .ensures) (c .before .before .before .before .before .before .before .least2 .ensures) (entry .args .refusal) _ (rw (c .enum-told .given .1) at (c .before .before .before .before .build .ensures))
+    says-question (length-take-le _ _ (omega arith)) (length-take-le _ _ (omega arith)) (c .before .before .before .before .before .before .before .before .least .ensures) (c .before .before .before .before .before .before .before .least2 .ensures) (entry .args .refusal) (rw (c .enum-told .given .1) at (c .before .before .before .before .build .ensures))
 
 pub refuse-spec : {M : Type 1} → statement M
 refuse-spec =

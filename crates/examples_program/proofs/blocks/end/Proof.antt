@@ -12,7 +12,7 @@ end-spec =
     (λ c. search needs)
     (λ c κs. search needs)
     (λ c κs. search needs)
-    (λ c. sym (puts-length _ _ _ _ _ (c .before .last-line .ensures)))
+    (λ c. sym (puts-length (c .before .last-line .ensures)))
     (λ c κs. search needs)
     (λ c κs. search needs)
     (λ c. search needs))

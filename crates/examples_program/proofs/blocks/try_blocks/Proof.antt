@@ -11,7 +11,7 @@ try-blocks-spec =
     (tie.spec
     (λ c. search needs)
     (λ c κs. search needs)
-    (λ c. sym (puts-length _ _ _ _ _ (c .before .before .«open» .ensures .puts)))
+    (λ c. sym (puts-length (c .before .before .«open» .ensures .puts)))
     (λ c κs. search needs)
     (λ c κs. search needs)
     (λ c κs. search needs)

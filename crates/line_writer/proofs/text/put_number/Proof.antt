@@ -14,6 +14,6 @@ put-number-spec =
     (λ c. search needs)
     (λ c. search needs)
     (λ c κs. omega (arith, number-digits _ _ _ (c .before .before .decimal .ensures) (search needs) .1, c .before .before .before .before .before .before .pre))
-    (λ c κs. let put = c .before .before .before .put .ensures in omega (arith, number-digits _ _ _ (c .before .before .before .before .before .before .decimal .ensures) (search needs) .1, put .ends, puts-length _ _ _ _ _ put, c .before .before .before .before .before .before .before .before .before .before .pre))
+    (λ c κs. let put = c .before .before .before .put .ensures in omega (arith, number-digits _ _ _ (c .before .before .before .before .before .before .decimal .ensures) (search needs) .1, put .ends, puts-length put, c .before .before .before .before .before .before .before .before .before .before .pre))
     (λ c. search needs)
     (λ c. puts-number (number-digits _ _ _ (c .before .before .before .before .before .before .before .before .before .decimal .ensures) (search needs)) (c .before .before .before .before .before .before .put .ensures) (c .before .before .put2 .ensures)))
