@@ -7,7 +7,7 @@ use Prim.Native.Nat.{ℕ, zero, suc, _+_, _-_, _≤_}
 use lib.ListN.{length, getD, take, drop}
 use Rattle.base.specs.Result.{Result}
 use Rattle.base.specs.Result.Result.{refused, ok}
-use Rattle.query_causes.specs.Query.{tables-fit, Answered}
+use Rattle.query_causes.specs.Query.{names-in, Answered}
 use Rattle.query_causes.specs.Input.{links-of, Whole, Broken}
 use Rattle.query_simulation.specs.States.{Unused}
 use Rattle.query_simulation.specs.Transitions.{transition-count}
@@ -43,18 +43,13 @@ module _ (heads moves : List ℕ) where
     pub completes : (n : ℕ) (bytes : List ℕ) → Batched (drop read q) n bytes → Batched q (read + n) (take answered answers′ ++ bytes)
     pub kept : drop answered answers′ ≡ drop answered answers
 
-  -- tables with so many names, which fit and are indexed, or 0 where they do not fit; sets that are empty under a stamp
+  -- how many names the tables have, 0 where they do not fit; those that fit are indexed, and the sets are empty under a stamp
   pub record Ready (names stamp : ℕ) (space : List ℕ) : Type 0 where
     pub unused : Unused 2048 stamp space
-    pub wrong : names ≡ 0 → tables-fit heads moves ≡ false
-    pub fit : (names ≡ 0 → ⊥) → (tables-fit heads moves ≡ true) × (names ≡ length heads) × Indexed 2048 moves space (transition-count moves)
+    pub named : names ≡ names-in heads moves
+    pub indexed : (names ≡ 0 → ⊥) → Indexed 2048 moves space (transition-count moves)
 
-  -- the byte answers the question on so many bytes of q; what stands in the space is older than the stamp
-  pub record Asked (names : ℕ) (q : List ℕ) (read size byte stamp : ℕ) (space : List ℕ) : Type 0 where
-    pub answered : Answered heads moves (getD q read 0) (take (read + size - (read + 3)) (drop (read + 3) q)) (told byte)
+  -- the byte answers the question at the front of s; what stands in the space is older than the stamp
+  pub record Asked (names : ℕ) (s : List ℕ) (byte stamp : ℕ) (space : List ℕ) : Type 0 where
+    pub answered : Answered heads moves (getD s 0 0) (take (links-of s) (drop 3 s)) (told byte)
     pub ready : Ready names stamp space
-
--- how many bytes the whole question at the front of s takes, or 0 for none
-pub record WholeSize (s : List ℕ) (n : ℕ) : Type 0 where
-  pub some : (n ≡ 0 → ⊥) → (n ≡ 3 + links-of s) × Whole s
-  pub none : n ≡ 0 → Broken s

@@ -2,101 +2,78 @@
 use mathlib.Core.Bool.{Bool, true, false}
 use mathlib.Core.List.{List, [], _∷_, append-assoc, append-nil}
 use mathlib.Core.Logic.{_⊎_, inl, inr}
-use mathlib.Core.Path.{_≡_, refl, sym, ap, ap₂, _∙_}
+use mathlib.Core.Path.{_≡_, refl, sym, ap, _∙_}
 use Prim.Native.Nat.{ℕ, zero, suc, _+_, _-_, _<_, _≤_}
 use native.Mathlib.Nat.{zero-add}
 use native.Mathlib.Omega.{arith}
-use borrow.Author.Tests.{ltb-true, ltb-false}
-use lib.Dec.{ltb}
-use lib.ListN.{length, getD, set, take, drop, length-set, length-drop}
-use lib.Seq.{getD-drop, drop-drop, take-suc-set, drop-set-lt}
-use Rattle.words.specs.Word.{word}
-use Rattle.words.specs.WordLaws.{word-drop}
+use borrow.Author.Tests.{leb-true, leb-false, ltb-true}
+use lib.Dec.{leb, ltb}
+use lib.ListN.{length, getD, set, take, drop, replicate, length-set, length-drop}
+use lib.Seq.{getD-drop, drop-drop, take-suc-set, drop-set-lt, length-take-le}
 use mir.Val.{boolByte}
 use Rattle.base.specs.Reflects.{Reflects}
 use Rattle.base.specs.Result.Result.{refused, ok}
-use Rattle.roles.specs.Role.{name}
-use Rattle.query_causes.specs.Query.{tables-fit, question, query, asked, Accepts, Answered}
+use Rattle.base.specs.ResultLaws.{demand-test}
 use Rattle.base.specs.Decision.Decision.{refuses, yes, no}
-use Rattle.query_causes.specs.Input.{links-of, Broken}
-use Rattle.refusals.specs.Check.{check, check-passed, check-failed}
-use Rattle.refusals.specs.declared.check.Check.{Check}
-use Rattle.refusals.specs.declared.check.Check.the-variants.{Passed, Failed}
-use Rattle.refusals.specs.QueryRefusals.{query-cause}
-use Rattle.refusals.specs.declared.query.QueryRefusal.{QueryRefusal}
-use Rattle.refusals.specs.declared.query.QueryRefusal.the-variants.{Tables, Chain, Role}
-use Rattle.query_simulation.specs.QueryLaws.{query-tables, query-question, named-head, askable, accepted}
+use Rattle.roles.specs.Role.{Chain, name}
+use Rattle.byte_parts.specs.Bytes.{between}
+use Rattle.byte_parts.specs.BytesLaws.{between-some}
+use Rattle.query_causes.specs.Query.{tables-fit, question, names-in, query, query-for, cause-of, asked, Accepts, Answered}
+use Rattle.query_causes.specs.Input.{links-of, Whole, Broken, is-whole, whole-size}
+use Rattle.query_simulation.specs.QueryLaws.{names-none, names-some, query-names, cause-none, cause-some, askable, accepted}
 use Rattle.query_simulation.specs.Reading.{Leads, Readable}
 use Rattle.query_simulation.specs.States.{Unused, Renewed}
-use Rattle.query_simulation.specs.StatesLaws.{unused-later}
-use Rattle.query_simulation.specs.TablesLaws.{tables}
+use Rattle.query_simulation.specs.StatesLaws.{unused-zeros, unused-later}
+use Rattle.query_simulation.specs.TablesLaws.{Tables, tables}
 use Rattle.query_simulation.specs.Transitions.{transition-count}
-use Rattle.query_simulation.specs.TransitionIndex.{Prepared}
-use Rattle.query_simulation.specs.TransitionIndexLaws.{indexed-behind}
-use Rattle.query_answerer.specs.Batch.{told, Batched, Batches, Going, Ready, Asked, WholeSize}
+use Rattle.query_simulation.specs.TransitionIndex.{Prepared, Filled}
+use Rattle.query_simulation.specs.TransitionIndexLaws.{prepared-zeros, indexed-behind}
+use Rattle.query_answerer.specs.Batch.{told, Batched, Batches, Going, Ready, Asked}
 use Rattle.query_answerer.specs.Batch.Batched.{none, more}
 
--- what each test of the search for a whole question settles
-module _ (q : List ℕ) (at : ℕ) (h : at ≤ length q) where
-  left : length (drop at q) ≡ length q - at
-  left = length-drop at q
+-- what its size tells of a question
+module _ (s : List ℕ) {size : ℕ} (e : size ≡ whole-size s) where
+  sized-by : (t : Bool) → is-whole s ≡ t → (size ≡ 0 → ⊥) → (size ≡ 3 + links-of s) × Whole s
+  sized-by true h some = (rw h at e, leb-true (3 + links-of s) (length s) h)
+  sized-by false h some = absurd (some (rw h at e))
 
-  same-links : word q (at + 1) ≡ links-of (drop at q)
-  same-links = sym (word-drop at q 1)
+  unsized-by : (t : Bool) → is-whole s ≡ t → size ≡ 0 → Broken s
+  unsized-by true h z = let f : size ≡ 3 + links-of s = rw h at e in absurd (let g : ⊥ = omega (arith, f, z) in g)
+  unsized-by false h z = leb-false (3 + links-of s) (length s) h
 
-  pub sized-short : length q - at < 3 → WholeSize (drop at q) 0
-  sized-short l =
-      let short : length (drop at q) < 3 = omega (arith, left, l) in
-      record { some = λ z. absurd (z refl); none = λ e. omega arith }
+  pub unsized : size ≡ 0 → Broken s
+  unsized = unsized-by (is-whole s) refl
 
-  pub sized-part : 3 ≤ length q - at → length q - at - 3 < word q (at + 1) → WholeSize (drop at q) 0
-  sized-part m l = record { some = λ z. absurd (z refl); none = λ e. omega (arith, left, m, l, same-links) }
+  module _ (some : size ≡ 0 → ⊥) where
+    pub sized : (size ≡ 3 + links-of s) × Whole s
+    sized = sized-by (is-whole s) refl some
 
-  pub sized-whole : 3 ≤ length q - at → word q (at + 1) ≤ length q - at - 3 → WholeSize (drop at q) (3 + word q (at + 1))
-  sized-whole m l =
-      record {
-        some = λ z. (ap (λ (n : ℕ). 3 + n) same-links, omega (arith, left, m, l, same-links));
-        none = λ e. absurd (let f : ⊥ = omega (arith, e) in f);
-      }
+    -- its links are those between its first three bytes and its end
+    sized-links : between 3 size s ≡ take (links-of s) (drop 3 s)
+    sized-links =
+        let same : size - 3 ≡ links-of s = omega (arith, sized .0) in
+        between-some 3 size s (omega (arith, sized .0, sized .1)) (omega (arith, sized .0)) ∙ ap (λ (n : ℕ). take n (drop 3 s)) same
 
--- a whole question at a place ends within the input
-module _ (q : List ℕ) (read size : ℕ) (h : read ≤ length q) (found : WholeSize (drop read q) size) (some : size ≡ 0 → ⊥) where
-  pub whole-fits : (3 ≤ size) × (read + size ≤ length q)
-  whole-fits =
-      let f = found .some some in
-      let e : size ≡ 3 + links-of (drop read q) = f .0 in
-      let w : 3 + links-of (drop read q) ≤ length (drop read q) = f .1 in
-      (omega arith, omega (arith, length-drop read q))
+-- a whole question at a place of q is answered
+module _ {heads moves q answers answers′ : List ℕ} {read answered : ℕ} (g : Going heads moves q answers read answered answers′) where
+  module _ {size : ℕ} (e : size ≡ whole-size (drop read q)) (some : size ≡ 0 → ⊥) where
+    pub whole-fits : read + size ≤ length q
+    whole-fits = let f = sized (drop read q) e some in omega (arith, f .0, f .1, g .within, length-drop read q)
 
-  module _ (heads moves : List ℕ) where
-    -- its role and its chain stand in their places
-    whole-answered : (byte : ℕ) → Answered heads moves (getD q read 0) (take (read + size - (read + 3)) (drop (read + 3) q)) (told byte)
-        → Answered heads moves (getD (drop read q) 0 0) (take (links-of (drop read q)) (drop 3 (drop read q))) (told byte)
-    whole-answered byte t =
-        let e : size ≡ 3 + links-of (drop read q) = found .some some .0 in
-        let links : links-of (drop read q) ≡ read + size - (read + 3) = omega arith in
-        let none : read + 0 ≡ read = omega arith in
-        let role : getD (drop read q) 0 0 ≡ getD q read 0 = getD-drop read q 0 0 ∙ ap (λ (i : ℕ). getD q i 0) none in
-        let chain : take (links-of (drop read q)) (drop 3 (drop read q)) ≡ take (read + size - (read + 3)) (drop (read + 3) q) =
-        ap₂ (λ (n : ℕ) (s : List ℕ). take n s) links (drop-drop 3 read q) in
-        rw (role, chain) t
-
-    pub going-next : (answers answers′ : List ℕ) (answered byte : ℕ) → Going heads moves q answers read answered answers′ → answered < length answers′
-        → Answered heads moves (getD q read 0) (take (read + size - (read + 3)) (drop (read + 3) q)) (told byte)
+    pub going-next : (byte : ℕ) → answered < length answers′ → Answered heads moves (getD (drop read q) 0 0) (take (links-of (drop read q)) (drop 3 (drop read q))) (told byte)
         → Going heads moves q answers (read + size) (answered + 1) (set answers′ answered byte)
-    going-next answers answers′ answered byte g l t =
+    going-next byte l t =
+        let f = sized (drop read q) e some in
         record {
-          within = whole-fits .1;
+          within = whole-fits;
           fits = omega (arith, g .same, l);
           same = length-set answers′ answered byte ∙ g .same;
           completes = λ n bytes b.
-              let e : size ≡ 3 + links-of (drop read q) = found .some some .0 in
               let one : answered + 1 ≡ suc answered = omega arith in
-              let sum : read + size + n ≡ read + (3 + links-of (drop read q) + n) = omega arith in
+              let sum : read + size + n ≡ read + (3 + links-of (drop read q) + n) = omega (arith, f .0) in
               let rest : Batched heads moves (drop (3 + links-of (drop read q)) (drop read q)) n bytes =
-              rw (drop-drop (3 + links-of (drop read q)) read q, ← e) b in
-              let joined = g .completes (3 + links-of (drop read q) + n) (byte ∷ bytes)
-              (more (drop read q) byte n bytes (found .some some .1) (whole-answered byte t) rest) in
+              rw (drop-drop (3 + links-of (drop read q)) read q, ← f .0) b in
+              let joined = g .completes (3 + links-of (drop read q) + n) (byte ∷ bytes) (more (drop read q) byte n bytes (f .1) t rest) in
               rw (one, take-suc-set answers′ answered byte l, append-assoc (take answered answers′) (byte ∷ []) bytes, sum) joined;
           kept =
               let one : answered + 1 ≡ suc answered = omega arith in
@@ -108,133 +85,120 @@ module _ (q : List ℕ) (read size : ℕ) (h : read ≤ length q) (found : Whole
               ∙ ap (λ (k : ℕ). drop k answers) one);
         }
 
-module _ (heads moves q answers : List ℕ) where
-  -- nothing is answered yet
-  pub going-none : Going heads moves q answers 0 0 answers
-  going-none = record { within = omega arith; fits = omega arith; same = refl; completes = λ n bytes b. rw (zero-add n) b; kept = refl }
-
   -- why no more is answered
-  module _ (read answered : ℕ) (answers′ : List ℕ) (g : Going heads moves q answers read answered answers′) where
-    going-ends : (answered ≡ length answers) ⊎ Broken (drop read q) → Batches heads moves q answers answers′ (record { answered = answered; read = read })
-    going-ends stopped =
-        let none-left : read + 0 ≡ read = omega arith in
-        record {
-          fits = g .fits;
-          same = g .same;
-          written = rw (none-left, append-nil (take answered answers′)) at (g .completes 0 [] (none (drop read q)));
-          kept = g .kept;
-          stopped = stopped;
-        }
+  going-ends : (answered ≡ length answers) ⊎ Broken (drop read q) → Batches heads moves q answers answers′ (record { answered = answered; read = read })
+  going-ends stopped =
+      let none-left : read + 0 ≡ read = omega arith in
+      record {
+        fits = g .fits;
+        same = g .same;
+        written = rw (none-left, append-nil (take answered answers′)) at (g .completes 0 [] (none (drop read q)));
+        kept = g .kept;
+        stopped = stopped;
+      }
 
-    pub going-full : length answers′ ≤ answered → Batches heads moves q answers answers′ (record { answered = answered; read = read })
-    going-full l = going-ends (inl (omega (arith, g .same, g .fits, l)))
+  pub going-full : length answers′ ≤ answered → Batches heads moves q answers answers′ (record { answered = answered; read = read })
+  going-full l = going-ends (inl (omega (arith, g .same, g .fits, l)))
 
-    pub going-broken : (size : ℕ) → WholeSize (drop read q) size → size ≡ 0 → Batches heads moves q answers answers′ (record { answered = answered; read = read })
-    going-broken size found e = going-ends (inr (found .none e))
+  pub going-broken : {size : ℕ} → size ≡ whole-size (drop read q) → size ≡ 0 → Batches heads moves q answers answers′ (record { answered = answered; read = read })
+  going-broken e z = going-ends (inr (unsized (drop read q) e z))
 
--- what answering one question gives, each way
-pub small-cause : (x : QueryRefusal) → query-cause x ≤ 14
-small-cause Tables = omega arith
-small-cause Chain = omega arith
-small-cause Role = omega arith
-
-refused-told : (heads moves : List ℕ) (r : ℕ) (w : List ℕ) (x : QueryRefusal) → query heads moves r w ≡ refused (query-cause x) 0 → (b : ℕ) → b ≡ query-cause x
-    → Answered heads moves r w (told b)
-refused-told heads moves r w Tables e b d = rw d (refuses 12 0 e)
-refused-told heads moves r w Chain e b d = rw d (refuses 13 0 e)
-refused-told heads moves r w Role e b d = rw d (refuses 14 0 e)
-
-few-taken : (n : ℕ) (s : List ℕ) → length (take n s) ≤ n
-few-taken zero s = omega arith
-few-taken (suc n) [] = omega arith
-few-taken (suc n) (x ∷ s) = omega (arith, few-taken n s)
+-- nothing is answered yet
+pub going-none : (heads moves q answers : List ℕ) → Going heads moves q answers 0 0 answers
+going-none heads moves q answers = record { within = omega arith; fits = omega arith; same = refl; completes = λ n bytes b. rw (zero-add n) b; kept = refl }
 
 -- tables that fit, and are indexed, or do not fit
-pub ready-fit : (heads moves : List ℕ) {space : List ℕ} → tables-fit heads moves ≡ true → Prepared 2048 1 moves (transition-count moves) space
-    → Ready heads moves (length heads) 1 space
-ready-fit heads moves h p =
-    record {
-      unused = p .unused;
-      wrong = λ e. absurd (let f : ⊥ = omega (arith, tables heads moves h .some-heads) in f);
-      fit = λ some. (h, refl, p .indexed);
-    }
+module _ (heads moves : List ℕ) {names : ℕ} (e : names ≡ names-in heads moves) where
+  fit-by : (t : Bool) → tables-fit heads moves ≡ t → (names ≡ 0 → ⊥) → Tables heads moves
+  fit-by true h some = tables heads moves h
+  fit-by false h some = absurd (some (e ∙ names-none heads moves h))
 
-pub ready-wrong : (heads moves : List ℕ) {space : List ℕ} → tables-fit heads moves ≡ false → Unused 2048 1 space → Ready heads moves 0 1 space
-ready-wrong heads moves h u = record { unused = u; wrong = λ e. h; fit = λ some. absurd (some refl) }
+  pub named-tables : (names ≡ 0 → ⊥) → Tables heads moves
+  named-tables = fit-by (tables-fit heads moves) refl
+
+  pub ready-wrong : names ≡ 0 → {space : List ℕ} → space ≡ replicate 15360 0 → Ready heads moves 0 1 space
+  ready-wrong z zeros = record { unused = rw zeros (unused-zeros 15360 (omega arith) (omega arith)); named = sym z ∙ e; indexed = λ some. absurd (some refl) }
+
+  module _ (some : names ≡ 0 → ⊥) where
+    pub ready-zeros : {space : List ℕ} → space ≡ replicate 15360 0 → Prepared 2048 1 moves 0 space
+    ready-zeros zeros = rw zeros (prepared-zeros moves 15360 (omega arith) (omega (arith, named-tables some .few)) (omega arith))
+
+    pub ready-fit : {space : List ℕ} {b : Bool} → Filled 2048 moves space b → Ready heads moves names 1 space
+    ready-fit f =
+        let p = f .prepared (f .all (named-tables some .fit)) in
+        record { unused = p .unused; named = e; indexed = λ some. p .indexed }
+
+told-refused : (c : ℕ) → 12 ≤ c → told c ≡ refused c 0
+told-refused zero l = absurd (let f : ⊥ = omega (arith, l) in f)
+told-refused (suc zero) l = absurd (let f : ⊥ = omega (arith, l) in f)
+told-refused (suc (suc c)) l = refl
 
 module _ {heads moves : List ℕ} {names stamp : ℕ} {space : List ℕ} (ready : Ready heads moves names stamp space) where
   -- with a newer stamp
   pub ready-renewed : {space′ : List ℕ} {newer : ℕ} → Renewed 2048 space space′ newer → Ready heads moves names newer space′
-  ready-renewed r =
-      record {
-        unused = r .unused;
-        wrong = ready .wrong;
-        fit = λ some. let f = ready .fit some in (f .0, f .1, indexed-behind (r .behind) (f .2));
-      }
+  ready-renewed r = record { unused = r .unused; named = ready .named; indexed = λ some. indexed-behind (r .behind) (ready .indexed some) }
 
   -- a later stamp is newer too
   pub ready-later : (later : ℕ) → stamp ≤ later → Ready heads moves names later space
-  ready-later later l = record { unused = unused-later later l (ready .unused); wrong = ready .wrong; fit = ready .fit }
+  ready-later later l = record { unused = unused-later later l (ready .unused); named = ready .named; indexed = ready .indexed }
 
-  module _ (q : List ℕ) (read size : ℕ) where
-    abbrev role : ℕ
-    role = getD q read 0
+  -- one question is answered, by its bytes
+  module _ (q : List ℕ) (read : ℕ) {size : ℕ} (e : size ≡ whole-size (drop read q)) (some : 0 < size) {r : ℕ} (role : r ≡ getD q read 0)
+      {w : Chain} (chain : w ≡ between 3 size (drop read q)) where
+    answered-as : (byte : ℕ) → Answered heads moves r w (told byte)
+        → Answered heads moves (getD (drop read q) 0 0) (take (links-of (drop read q)) (drop 3 (drop read q))) (told byte)
+    answered-as byte t =
+        let front : read + 0 ≡ read = omega arith in
+        let first : getD (drop read q) 0 0 ≡ r = getD-drop read q 0 0 ∙ ap (λ (i : ℕ). getD q i 0) front ∙ sym role in
+        let links : take (links-of (drop read q)) (drop 3 (drop read q)) ≡ w = sym (chain ∙ sized-links (drop read q) e (λ z. omega (arith, z, some))) in
+        rw (first, links) t
 
-    abbrev chain : List ℕ
-    chain = take (read + size - (read + 3)) (drop (read + 3) q)
+    short-links : length w + 3 ≡ size
+    short-links =
+        let nonzero : size ≡ 0 → ⊥ = λ z. omega (arith, z, some) in
+        let f = sized (drop read q) e nonzero in
+        let fits : links-of (drop read q) ≤ length (drop 3 (drop read q)) = omega (arith, f .1, length-drop 3 (drop read q)) in
+        let taken = ap (λ (s : List ℕ). length s) (chain ∙ sized-links (drop read q) e nonzero) in
+        omega (arith, f .0, taken, length-take-le (links-of (drop read q)) (drop 3 (drop read q)) fits)
 
-    pub asked-wrong : names ≡ 0 → Asked heads moves names q read size 12 (stamp + size) space
-    asked-wrong e =
-        record {
-          answered = refused-told heads moves role chain Tables (query-tables heads moves role chain (ready .wrong e)) 12 refl;
-          ready = ready-later (stamp + size) (omega arith);
-        }
+    query-is : query heads moves r w ≡ query-for names r w
+    query-is = query-names heads moves r w (ready .named)
 
-    module _ (some : names ≡ 0 → ⊥) where
-      query-is : query heads moves role chain ≡ question names role chain
-      query-is = let f = ready .fit some in rw (f .1) (query-question heads moves role chain (f .0))
+    module _ {cause : ℕ} (found : cause ≡ cause-of (query-for names r w)) where
+      pub asked-refused : (cause ≡ 0 → ⊥) → Asked heads moves names (drop read q) cause (stamp + size) space
+      asked-refused bad =
+          let f = cause-some names r w found bad in
+          record { answered = answered-as cause (rw (told-refused cause (f .0)) (refuses cause 0 (query-is ∙ f .1))); ready = ready-later (stamp + size) (omega arith) }
 
-      pub asked-refused : (x : QueryRefusal) → question names role chain ≡ refused (query-cause x) 0 → (b : ℕ) → b ≡ query-cause x
-          → Asked heads moves names q read size b (stamp + size) space
-      asked-refused x e b d =
-          record { answered = refused-told heads moves role chain x (query-is ∙ e) b d; ready = ready-later (stamp + size) (omega arith) }
+      module _ (good : cause ≡ 0) {h : ℕ} (head : h ≡ getD heads (name r) 0) where
+        passed : query heads moves r w ≡ ok tt
+        passed = query-is ∙ cause-none names r w found good
 
-      module _ (fits : question names role chain ≡ ok tt) {n : ℕ} (e : n ≡ name role) where
-        pub ready-named : n < length heads
-        ready-named = named-head heads moves role chain (query-is ∙ fits) e
+        named : names ≡ 0 → ⊥
+        named z = omega (arith, z, ltb-true 0 names (demand-test (ltb 0 names) 12 0 (question names r w) tt (cause-none names r w found good)))
 
-        pub ready-readable : stamp ≤ 64000 → Readable moves 2048 stamp (getD heads n 0) chain space
+        pub ready-readable : stamp ≤ 64000 → Readable moves 2048 stamp h w space
         ready-readable early =
-            let a = askable heads moves role chain (query-is ∙ fits) e in
+            let a = askable heads moves r w passed head in
             record {
-              prepared = record { unused = ready .unused; indexed = ready .fit some .2 };
+              prepared = record { unused = ready .unused; indexed = ready .indexed named };
               letters = a .letters;
               inside = omega (arith, a .low);
               early = early;
             }
 
-        module _ (three : 3 ≤ size) {space′ : List ℕ} (left : Prepared 2048 (stamp + length chain + 1) moves (transition-count moves) space′) where
+        module _ {space′ : List ℕ} (left : Prepared 2048 (stamp + length w + 1) moves (transition-count moves) space′) where
           ready-after : Ready heads moves names (stamp + size) space′
           ready-after =
-              let f = ready .fit some in
               record {
-                unused = unused-later (stamp + size) (omega (arith, few-taken (read + size - (read + 3)) (drop (read + 3) q))) (left .unused);
-                wrong = ready .wrong;
-                fit = λ more. (f .0, f .1, left .indexed);
+                unused = unused-later (stamp + size) (omega (arith, short-links)) (left .unused);
+                named = ready .named;
+                indexed = λ some. left .indexed;
               }
 
-          decided : (b : Bool) → Reflects b (Accepts heads moves role chain) → Asked heads moves names q read size (boolByte b) (stamp + size) space′
-          decided true d = record { answered = yes (query-is ∙ fits) (d .holds refl); ready = ready-after }
-          decided false d = record { answered = no (query-is ∙ fits) (d .fails refl); ready = ready-after }
+          decided : (b : Bool) → Reflects b (Accepts heads moves r w) → Asked heads moves names (drop read q) (boolByte b) (stamp + size) space′
+          decided true d = record { answered = answered-as 1 (yes passed (d .holds refl)); ready = ready-after }
+          decided false d = record { answered = answered-as 0 (no passed (d .fails refl)); ready = ready-after }
 
-          pub asked-decided : {b : Bool} → Reflects b (Leads moves (getD heads n 0) (asked role chain) (getD heads n 0 + 1))
-              → Asked heads moves names q read size (boolByte b) (stamp + size) space′
-          asked-decided {b} d = decided b (accepted heads moves role chain (query-is ∙ fits) e d)
-
--- whether tables have a name, as the check finds it
-module _ {names : ℕ} {r : Check} (e : r ≡ check (ltb 0 names)) where
-  pub known-some : r ≡ Passed → names ≡ 0 → ⊥
-  known-some h z = omega (arith, ltb-true 0 names (check-passed _ _ e h))
-
-  pub known-none : r ≡ Failed → names ≡ 0
-  known-none h = omega (arith, ltb-false 0 names (check-failed _ _ e h))
+          pub asked-decided : {b : Bool} → Reflects b (Leads moves h (asked r w) (h + 1)) → Asked heads moves names (drop read q) (boolByte b) (stamp + size) space′
+          asked-decided {b} d = decided b (accepted heads moves r w passed head d)

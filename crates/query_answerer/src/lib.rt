@@ -1,7 +1,9 @@
 // Answers a question put to tables: whether they accept a chain for a role, or the first cause of document 01, 12 to 14, that refuses
 // the question.
 ghost use Prim.Native.Nat.{_+_};
-ghost use Rattle.query_causes.specs.Query.{asked, Answered};
+ghost use mathlib.Core.Path.{_≡_};
+ghost use Rattle.query_causes.specs.Query.{query, asked, Answered};
+ghost use Rattle.base.specs.Result.Result.{ok};
 ghost use Rattle.base.specs.Reflects.{Reflects};
 ghost use Rattle.query_simulation.specs.Reading.{Leads, Askable};
 ghost use Rattle.query_answerer.specs.Answer.{says};
@@ -13,12 +15,11 @@ mod states;
 
 pub use batch::Batch;
 pub use batch::ask_all;
-use index::fill_index;
-use index::fill_within;
+use index::fill;
 use query_checker::QueryVerdict;
+use query_parts::head;
 use reading::run;
 use refusals::QueryRefusal;
-use role_bytes::name;
 
 // What a question is answered with.
 pub enum Answer {
@@ -37,14 +38,19 @@ pub fn ask(heads: &[u16], moves: &[u16], role: u8, chain: &[u8]) -> Answer
     let question = query_checker::check(heads, moves, role, chain);
     match question {
         QueryVerdict::Refused(refusal) => Answer::Refused(refusal),
-        QueryVerdict::Fits => {
-            let head = heads[name(role) as usize] as usize;
-            if !accepts(moves, role, chain, head) {
-                return Answer::No;
-            }
-            Answer::Yes
-        }
+        QueryVerdict::Fits => decided(heads, moves, role, chain),
     }
+}
+
+// Yes or no, to a question that is not refused.
+fn decided(heads: &[u16], moves: &[u16], role: u8, chain: &[u8]) -> Answer
+    requires { ⌜ query (now heads) (now moves) role (now chain) ≡ ok tt ⌝ }
+    ensures { λ r. ⌜ Answered (now (heads .entry)) (now (moves .entry)) role (now (chain .entry)) (says r) ⌝ }
+{
+    if accepts(moves, role, chain, head(heads, role)) {
+        return Answer::Yes;
+    }
+    Answer::No
 }
 
 // Whether a path from the state `head` to the next one spells the chain, or its inverse for the inverse of a name. Small tables are read in a
@@ -55,7 +61,7 @@ fn accepts(moves: &[u16], role: u8, chain: &[u8], head: usize) -> bool
 {
     if head < 63 && moves.len() <= 576 {
         let mut space = [0u16; 512];
-        if fill_within(moves, 64, &mut space) {
+        if fill(moves, 64, &mut space) {
             return run(moves, 64, role, chain, head, 1, &mut space);
         }
     }
@@ -67,6 +73,6 @@ fn accepts_many(moves: &[u16], role: u8, chain: &[u8], head: usize) -> bool
     ensures { λ r. ⌜ Reflects r (Leads (now (moves .entry)) head (asked role (now (chain .entry))) (head + 1)) ⌝ }
 {
     let mut space = [0u16; 15360];
-    fill_index(moves, 2048, &mut space);
+    fill(moves, 2048, &mut space);
     run(moves, 2048, role, chain, head, 1, &mut space)
 }

@@ -1,15 +1,13 @@
 // Reads a chain link by link with sets of states: only the active states and their transitions are visited.
-ghost use mathlib.Core.Path.{_≡_};
 ghost use Prim.Native.Nat.{_+_, _*_, _<_};
-ghost use lib.ListN.{length, getD};
+ghost use lib.ListN.{length};
 ghost use Rattle.query_causes.specs.Query.{asked};
 ghost use Rattle.base.specs.Reflects.{Reflects};
 ghost use Rattle.query_simulation.specs.Transitions.{transition-count};
 ghost use Rattle.query_simulation.specs.TransitionIndex.{Prepared, Active, Met, Spread};
 ghost use Rattle.query_simulation.specs.Reading.{Readable, Leads, Closing, Steps, Stepped};
 use crate::states::put;
-use role_bytes::inverse;
-use role_bytes::is_inverse;
+use query_parts::link;
 
 // Whether a path from the state `head` to the next one spells the chain, or its inverse if the role is the inverse of a name. The set after
 // i links has the i-th stamp after the given one; the links go to and fro between the two lists.
@@ -26,8 +24,8 @@ pub(crate) fn run(
     ensures { λ r. ⌜ Reflects r (Leads (now (moves .entry)) head (asked role (now (chain .entry))) (head + 1)) ⌝ }
     ensures { λ _. ⌜ Prepared room (stamp + length (now (chain .entry)) + 1) (now (moves .entry)) (transition-count (now (moves .entry))) (now (space .exit)) ⌝ }
 {
-    let started = put(space, room, 0, stamp, 0, head);
-    let mut count = close(moves, room, space, 0, stamp, started);
+    let mut count = put(space, room, 0, stamp, 0, head);
+    count = close(moves, room, space, 0, stamp, count);
     let mut list = 0;
     let mut newest = stamp;
     let mut i = 0;
@@ -39,17 +37,6 @@ pub(crate) fn run(
         i += 1;
     }
     space[2 * room + (head + 1)] == newest
-}
-
-// Link i of the chain, or of its inverse if the role is the inverse of a name.
-fn link(role: u8, chain: &[u8], i: usize) -> u8
-    requires { ⌜ i < length (now chain) ⌝ }
-    ensures { λ r. ⌜ r ≡ getD (asked role (now (chain .entry))) i 0 ⌝ }
-{
-    if is_inverse(role) {
-        return inverse(chain[chain.len() - 1 - i]);
-    }
-    chain[i]
 }
 
 // Reads one link: fills the other list with what the states of this one reach by the label and then silently; returns its count.

@@ -7,7 +7,7 @@ ghost use Rattle.refusals.specs.Check.{check};
 use refusals::Check;
 
 // Cause 12: the tables.
-pub fn tables_fit(heads: &[u16], moves: &[u16]) -> Check
+pub(crate) fn tables_fit(heads: &[u16], moves: &[u16]) -> Check
     ensures { λ r. ⌜ r ≡ check (tables-fit (now (heads .entry)) (now (moves .entry))) ⌝ }
 {
     if heads.len() < 1 {

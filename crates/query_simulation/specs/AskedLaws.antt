@@ -2,9 +2,10 @@
 use mathlib.Core.Bool.{true, false}
 use mathlib.Core.List.{List}
 use mathlib.Core.Path.{_≡_, refl, sym}
-use Prim.Native.Nat.{ℕ, _+_, _*_, _-_, _<_}
+use Prim.Native.Nat.{ℕ, _+_, _*_, _-_, _<_, _≤_}
+use native.Mathlib.Omega.{arith}
 use lib.Dec.{eqb}
-use lib.ListN.{length, getD}
+use lib.ListN.{length, getD, List·getD-eq-default}
 use Rattle.roles.specs.Role.{Chain, polarity, inv}
 use Rattle.roles.specs.RoleLaws.{getD-inv-chain, length-turn, turn-below}
 use Rattle.query_causes.specs.Query.{asked}
@@ -17,6 +18,9 @@ module _ (r : ℕ) (w : Chain) where
   length-asked : length (asked r w) ≡ length w
   unfolding asked
   length-asked = length-turn (eqb (polarity r) 1) w
+
+  pub asked-past : {i : ℕ} → length w ≤ i → getD (asked r w) i 0 ≡ 0
+  asked-past {i} h = List·getD-eq-default (asked r w) 0 {n = i} (omega (arith, h, length-asked))
 
   module _ (i : ℕ) (l : i < length w) where
     pub asked-name : eqb (polarity r) 1 ≡ false → getD w i 0 ≡ getD (asked r w) i 0

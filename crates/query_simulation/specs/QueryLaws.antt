@@ -1,21 +1,22 @@
 -- Laws of questions: the first refusal met, what a question that is not refused has passed, and what it then says of its roles.
 use mathlib.Core.Bool.{Bool, true, false}
 use mathlib.Core.List.{List, _∷_}
-use mathlib.Core.Path.{_≡_, refl}
+use mathlib.Core.Path.{_≡_, refl, sym, _∙_}
 use Prim.Native.Nat.{ℕ, zero, suc, _+_, _*_, _<_, _≤_}
 use native.Mathlib.Omega.{arith}
 use lib.ListN.{length, getD}
 use Rattle.roles.specs.Role.{Chain, name}
+use Rattle.base.specs.Result.{Result, demand}
 use Rattle.base.specs.Result.Result.{refused, ok}
 use Rattle.base.specs.ResultLaws.{demand-test, demand-rest}
 use Rattle.book_format.specs.Format.{named}
 use Rattle.book_format.specs.DeclaredLaws.{named-all, named-link}
-use borrow.Author.Tests.{leb-true}
-use lib.Dec.{leb}
+use borrow.Author.Tests.{leb-true, lt-ltb}
+use lib.Dec.{leb, ltb}
 use Rattle.base.specs.Truth.{and-right}
 use Rattle.base.specs.Reflects.{Reflects}
 use Rattle.tables.specs.Path.{Path}
-use Rattle.query_causes.specs.Query.{transitions-in, tables-fit, chain-fits, question, query, asked, Accepts}
+use Rattle.query_causes.specs.Query.{transitions-in, tables-fit, chain-fits, question, query, names-in, query-for, cause-of, asked, Accepts}
 use Rattle.query_simulation.specs.Reading.{Letters, Askable}
 use Rattle.query_simulation.specs.TablesLaws.{Tables, tables}
 
@@ -31,6 +32,45 @@ module _ (n r : ℕ) (w : Chain) where
     pub question-ok : named n (r ∷ w) ≡ true → question n r w ≡ ok tt
     question-ok h = rw (sized, h) refl
 
+-- put to tables without a name, or with some
+module _ (n r : ℕ) (w : Chain) where
+  pub unnamed-cause : ltb 0 n ≡ false → cause-of (query-for n r w) ≡ 12
+  unnamed-cause h = rw h refl
+
+  pub named-cause : ltb 0 n ≡ true → cause-of (query-for n r w) ≡ cause-of (question n r w)
+  named-cause h = rw h refl
+
+-- what the number of the cause says, for so many names: nothing is refused, or all is by it
+abbrev tested : (t u v : Bool) → Result (Unit {0})
+tested t u v = demand t 12 0 (demand u 13 0 (demand v 14 0 (ok tt)))
+
+tested-none : (t u v : Bool) {c : ℕ} → c ≡ cause-of (tested t u v) → c ≡ 0 → tested t u v ≡ ok tt
+tested-none true true true e z = refl
+tested-none true true false e z = absurd (let f : ⊥ = omega (arith, e, z) in f)
+tested-none true false v e z = absurd (let f : ⊥ = omega (arith, e, z) in f)
+tested-none false u v e z = absurd (let f : ⊥ = omega (arith, e, z) in f)
+
+tested-some : (t u v : Bool) {c : ℕ} → c ≡ cause-of (tested t u v) → (c ≡ 0 → ⊥) → (12 ≤ c) × (tested t u v ≡ refused c 0)
+tested-some true true true e some = absurd (some e)
+tested-some true true false e some = rw e (omega arith, refl)
+tested-some true false v e some = rw e (omega arith, refl)
+tested-some false u v e some = rw e (omega arith, refl)
+
+module _ (n r : ℕ) (w : Chain) {c : ℕ} (e : c ≡ cause-of (query-for n r w)) where
+  pub cause-none : c ≡ 0 → query-for n r w ≡ ok tt
+  cause-none = tested-none (ltb 0 n) (chain-fits w) (named n (r ∷ w)) e
+
+  pub cause-some : (c ≡ 0 → ⊥) → (12 ≤ c) × (query-for n r w ≡ refused c 0)
+  cause-some = tested-some (ltb 0 n) (chain-fits w) (named n (r ∷ w)) e
+
+-- how many names tables have
+module _ (heads moves : List ℕ) where
+  pub names-none : tables-fit heads moves ≡ false → names-in heads moves ≡ 0
+  names-none h = rw h refl
+
+  pub names-some : tables-fit heads moves ≡ true → names-in heads moves ≡ length heads
+  names-some h = rw h refl
+
 -- the first refusal met, put to tables
 module _ (heads moves : List ℕ) (r : ℕ) (w : Chain) where
   pub query-tables : tables-fit heads moves ≡ false → query heads moves r w ≡ refused 12 0
@@ -40,6 +80,17 @@ module _ (heads moves : List ℕ) (r : ℕ) (w : Chain) where
   pub query-question : tables-fit heads moves ≡ true → query heads moves r w ≡ question (length heads) r w
   unfolding query
   query-question h = rw h refl
+
+  -- for as many names as they have
+  query-named : (t : Bool) → tables-fit heads moves ≡ t → query heads moves r w ≡ query-for (names-in heads moves) r w
+  query-named true h =
+      let some : ltb 0 (length heads) ≡ true = lt-ltb 0 (length heads) (tables heads moves h .some-heads) in
+      rw (h, some) (query-question h)
+  query-named false h = rw h (query-tables h)
+
+  module _ {names : ℕ} (e : names ≡ names-in heads moves) where
+    pub query-names : query heads moves r w ≡ query-for names r w
+    query-names = rw e (query-named (tables-fit heads moves) refl)
 
   -- what a question that is not refused has passed
   module _ (passed : query heads moves r w ≡ ok tt) where
@@ -88,14 +139,10 @@ module _ (heads moves : List ℕ) (r : ℕ) (w : Chain) (passed : query heads mo
         small = link-named (length heads) r w (fitting .few-heads) (passed-roles heads moves r w passed);
       }
 
-  -- by the number of its name
-  module _ {n : ℕ} (e : n ≡ name r) where
-    pub named-head : n < length heads
-    named-head = rw e named-role
+  -- by the initial state of its name
+  module _ {h : ℕ} (e : h ≡ getD heads (name r) 0) where
+    pub askable : Askable moves h w
+    askable = record { few = fitting .few; fit = fitting .fit; low = rw e (fitting .small-heads (name r) named-role); letters = letters }
 
-    pub askable : Askable moves (getD heads n 0) w
-    askable =
-        record { few = fitting .few; fit = fitting .fit; low = fitting .small-heads n named-head; letters = letters }
-
-    pub accepted : {b : Bool} → Reflects b (Path (transitions-in moves) (getD heads n 0) (asked r w) (getD heads n 0 + 1)) → Reflects b (Accepts heads moves r w)
+    pub accepted : {b : Bool} → Reflects b (Path (transitions-in moves) h (asked r w) (h + 1)) → Reflects b (Accepts heads moves r w)
     accepted d = rw e at d

@@ -1,19 +1,65 @@
 -- Laws of the index: one more transition enters it; a walk along a list meets every transition with its state and label.
+use mathlib.Core.Bool.{Bool, true, false, cond, _||_}
 use mathlib.Core.List.{List}
 use mathlib.Core.Logic.{_⊎_, inl, inr}
-use mathlib.Core.Path.{_≡_, sym, ap, _∙_}
+use mathlib.Core.Path.{_≡_, refl, sym, ap, _∙_}
 use Prim.Native.Nat.{ℕ, _+_, _*_, _-_, _<_, _≤_}
 use native.Mathlib.Omega.{arith}
 use borrow.Author.Count.{below-more}
+use borrow.Author.Tests.{le-leb, lt-leb, leb-true, leb-false}
+use lib.Dec.{leb}
 use lib.ListN.{length, getD, set, drop, replicate, length-set, length-drop, length-replicate, getD-replicate}
 use lib.Seq.{getD-drop, getD-set-other, drop-set-add}
 use Rattle.linked_lists.specs.LinkedLists.{Latest}
 use Rattle.linked_lists.specs.LinkedListsLaws as linked
 use Rattle.query_simulation.specs.States.{States, Member, Behind, Put}
 use Rattle.query_simulation.specs.StatesLaws.{unused-zeros, added-none, added-on, added-as, still-member}
-use Rattle.query_simulation.specs.Transitions.{from-at, label-at, to-at, transition-count, Arrow, Fits}
+use Rattle.query_simulation.specs.Transitions.{from-at, label-at, to-at, transition-count, Arrow, Fits, Fit}
 use Rattle.query_simulation.specs.TransitionsLaws.{Numbered, arrow-at, numbered}
-use Rattle.query_simulation.specs.TransitionIndex.{slot, slot-at, Indexed, Prepared, Met, Spread, Walked}
+use Rattle.query_simulation.specs.TransitionIndex.{slot, slot-at, list-of, Indexed, Prepared, Met, Spread, Walked}
+
+-- where the list of a transition begins, as the tests tell
+module _ (room : ℕ) (moves : List ℕ) (k : ℕ) where
+  abbrev outside : Bool
+  outside = leb room (from-at moves k) || leb room (to-at moves k)
+
+  pub list-past : transition-count moves ≤ k → list-of room moves k ≡ 0
+  list-past h = rw (le-leb (transition-count moves) k h) refl
+
+  module _ (l : k < transition-count moves) where
+    pub list-outside : outside ≡ true → list-of room moves k ≡ 0
+    list-outside h = rw (lt-leb (transition-count moves) k l, h) refl
+
+    pub list-inside : outside ≡ false → list-of room moves k ≡ 3 * room + slot-at moves k
+    list-inside h = rw (lt-leb (transition-count moves) k l, h) refl
+
+    -- and what it tells of the transition
+    tells-none : (t u : Bool) → t ≡ leb room (from-at moves k) → u ≡ leb room (to-at moves k) → cond (t || u) 0 (3 * room + slot-at moves k) ≡ 0
+        → Fits room moves k → ⊥
+    tells-none true u e f z fits = omega (arith, leb-true room (from-at moves k) (sym e), fits .from-fits)
+    tells-none false true e f z fits = omega (arith, leb-true room (to-at moves k) (sym f), fits .to-fits)
+    tells-none false false e f z fits = omega (arith, z, fits .from-fits)
+
+    tells-some : (t u : Bool) → t ≡ leb room (from-at moves k) → u ≡ leb room (to-at moves k) → (cond (t || u) 0 (3 * room + slot-at moves k) ≡ 0 → ⊥)
+        → (from-at moves k < room) × (to-at moves k < room) × (cond (t || u) 0 (3 * room + slot-at moves k) ≡ 3 * room + slot-at moves k)
+    tells-some true u e f some = absurd (some refl)
+    tells-some false true e f some = absurd (some refl)
+    tells-some false false e f some =
+        (omega (arith, leb-false room (from-at moves k) (sym e)), omega (arith, leb-false room (to-at moves k) (sym f)), refl)
+
+    list-within : list-of room moves k ≡ cond outside 0 (3 * room + slot-at moves k)
+    list-within = rw (lt-leb (transition-count moves) k l) refl
+
+    module _ {list : ℕ} (e : list ≡ list-of room moves k) where
+      pub listed-none : list ≡ 0 → Fits room moves k → ⊥
+      listed-none z = tells-none (leb room (from-at moves k)) (leb room (to-at moves k)) refl refl (sym list-within ∙ sym e ∙ z)
+
+      pub listed-some : (list ≡ 0 → ⊥) → Fit 2048 moves → Fits room moves k × (list ≡ 3 * room + slot-at moves k) × (list < 5 * room)
+      listed-some some fit =
+          let t = tells-some (leb room (from-at moves k)) (leb room (to-at moves k)) refl refl (λ z. some (e ∙ list-within ∙ z)) in
+          let here : list ≡ 3 * room + slot-at moves k = e ∙ list-within ∙ t .2 in
+          let label : label-at moves k ≤ 128 = fit k l .label-fits in
+          (record { from-fits = t .0; label-fits = label; to-fits = t .1 }, here, omega (arith, here, t .0, label))
 
 module _ {room : ℕ} where
   -- zeros are empty sets, and an index with no transition in
@@ -38,7 +84,7 @@ module _ {room : ℕ} where
       }
 
   -- one more transition enters
-  module _ (moves s : List ℕ) (n : ℕ) (so-far : Prepared room 1 moves n s) (more : n < transition-count moves) (fits : Fits room moves n) where
+  module _ {moves s : List ℕ} {n : ℕ} (so-far : Prepared room 1 moves n s) (more : n < transition-count moves) (fits : Fits room moves n) where
     slot-below : slot-at moves n < 2 * room
     slot-below = omega (arith, fits .from-fits, fits .label-fits)
 
@@ -63,7 +109,7 @@ module _ {room : ℕ} where
         ∙ drop-set-add (3 * room) s (2 * room + n) (getD s (3 * room + slot-at moves n) 0)
         ∙ ap (set (drop (3 * room) s) (2 * room + n)) (sym (getD-drop (3 * room) s (slot-at moves n) 0)))
 
-    pub prepared-more : Prepared room 1 moves (n + 1)
+    prepared-more : Prepared room 1 moves (n + 1)
         (set (set s (5 * room + n) (getD s (3 * room + slot-at moves n) 0)) (3 * room + slot-at moves n) (n + 1))
     unfolding entered
     prepared-more =
@@ -86,6 +132,9 @@ module _ {room : ℕ} where
                     (rw (length-drop (3 * room) s) (omega (arith, old .space))) slot-below);
               };
         }
+
+    pub prepared-entered : {list : ℕ} → list ≡ 3 * room + slot-at moves n → Prepared room 1 moves (n + 1) (set (set s (5 * room + n) (getD s list 0)) list (n + 1))
+    prepared-entered e = rw e prepared-more
 
   -- the index stands behind what is kept
   pub indexed-behind : {moves s t : List ℕ} {n : ℕ} → Behind room s t → Indexed room moves s n → Indexed room moves t n

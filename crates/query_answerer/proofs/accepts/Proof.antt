@@ -7,20 +7,20 @@ use Rattle.query_simulation.specs.TransitionIndexLaws.{prepared-zeros}
 use Rattle.query_answerer.proofs.accepts.Statement.{statement}
 use Rattle.query_answerer.proofs.accepts.Tie as tie
 
-fill-within-requires : tie.Need-fill-within-requires
-fill-within-requires c κs =
+fill-requires : tie.Need-fill-requires
+fill-requires c κs =
     let entry = c .before .before .before .before .before in
     (entry .pre .fit, prepared-zeros _ 512 (omega arith) (omega (arith, leb-true (length (entry .args .moves .now)) 576 (c .before .if2 .taken))) (omega arith))
 
 run-requires : tie.Need-run-requires
-run-requires c κs = record { prepared = c .before .before .before .fill-within .ensures (c .before .if3 .taken); letters = c .before .before .before .before .before .before .before .before .before .pre .letters; inside = omega (arith, c .before .before .before .before .before .before .if1 .taken); early = omega arith }
+run-requires c κs = record { prepared = c .before .before .before .fill .ensures .prepared (c .before .if3 .taken); letters = c .before .before .before .before .before .before .before .before .before .pre .letters; inside = omega (arith, c .before .before .before .before .before .before .if1 .taken); early = omega arith }
 
 pub accepts-spec : {M : Type 1} → statement M
 accepts-spec =
     tie.close
     (tie.spec
     (λ c. search needs)
-    fill-within-requires
+    fill-requires
     (λ c. search needs)
     run-requires
     (λ c. c .before .run .ensures .0)

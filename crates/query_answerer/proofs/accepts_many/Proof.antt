@@ -5,22 +5,22 @@ use Rattle.query_simulation.specs.TransitionIndexLaws.{prepared-zeros}
 use Rattle.query_answerer.proofs.accepts_many.Statement.{statement}
 use Rattle.query_answerer.proofs.accepts_many.Tie as tie
 
-fill-index-requires : tie.Need-fill-index-requires
-fill-index-requires c κs =
+fill-requires : tie.Need-fill-requires
+fill-requires c κs =
     let at-pre = c .before .before .before .pre in
     (at-pre .fit, prepared-zeros _ 15360 (omega arith) (omega (arith, at-pre .few)) (omega arith))
 
 run-requires : tie.Need-run-requires
 run-requires c κs =
     let at-pre = c .before .before .before .before .before .before .pre in
-    record { prepared = c .before .before .fill-index .ensures; letters = at-pre .letters; inside = omega (arith, at-pre .low); early = omega arith }
+    record { prepared = let filled = c .before .before .fill .ensures in filled .prepared (filled .all (at-pre .fit)); letters = at-pre .letters; inside = omega (arith, at-pre .low); early = omega arith }
 
 pub accepts-many-spec : {M : Type 1} → statement M
 accepts-many-spec =
     tie.close
     (tie.spec
     (λ c. search needs)
-    fill-index-requires
+    fill-requires
     (λ c. search needs)
     run-requires
     (λ c. c .before .run .ensures .0))

@@ -16,7 +16,7 @@ put-requires c κs =
     (at-pre .0 .good, at-pre .0 .indexed .fit (entry .args .k) (at-pre .1) .to-fits)
 
 returns-2 : tie.Need-returns-2
-returns-2 c = met-same _ _ _ (c .before .before .before .before .before .if1 .left) (c .before .before .put .ensures)
+returns-2 c = met-same _ _ _ (omega (arith, c .before .before .before .before .before .if1 .left)) (c .before .before .put .ensures)
 
 pub meet-spec : {M : Type 1} → statement M
 meet-spec =
@@ -26,7 +26,7 @@ meet-spec =
     (λ c. search needs)
     (λ c. search needs)
     (λ c. search needs)
-    (λ c. met-other _ _ _ (c .if1 .taken) (c .before .before .before .before .pre .0 .good))
+    (λ c. met-other _ _ _ (λ e. omega (arith, e, c .if1 .taken)) (c .before .before .before .before .pre .0 .good))
     (λ c. search needs)
     (λ c. search needs)
     (λ c. search needs)

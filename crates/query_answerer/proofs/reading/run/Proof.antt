@@ -2,6 +2,7 @@
 use mathlib.Core.Path.{_≡_, refl, _∙_}
 use Prim.Native.Nat.{_≤_, _+_, _-_}
 use native.Mathlib.Omega.{arith}
+use borrow.Author.Needs.{needs}
 use lib.ListN.{length}
 use Rattle.query_causes.specs.Query.{asked}
 use Rattle.query_simulation.specs.AskedLaws.{asked-letter, read-link, read-asked}
@@ -13,10 +14,10 @@ use Rattle.query_answerer.proofs.reading.run.Statement.{statement}
 use Rattle.query_answerer.proofs.reading.run.Tie as tie
 
 abbrev Inv-loop : tie.InvT-loop
-Inv-loop moves room role chain head stamp space₀ started count₀ list₀ newest₀ i₀ space count list newest i = (i ≤ length chain) × ((newest ≡ stamp + i) × ((length space ≡ length space₀) × Read moves room newest list head (asked role chain) i space count))
+Inv-loop moves room role chain head stamp space₀ count₀ list₀ newest₀ i₀ space count list newest i = (i ≤ length chain) × ((newest ≡ stamp + i) × ((length space ≡ length space₀) × Read moves room newest list head (asked role chain) i space count))
 
 abbrev μ-loop : tie.MeasureT-loop
-μ-loop moves room role chain head stamp space₀ started count₀ list₀ newest₀ i₀ space count list newest i = length chain - i
+μ-loop moves room role chain head stamp space₀ count₀ list₀ newest₀ i₀ space count list newest i = length chain - i
 
 put-requires : tie.Need-put-requires Inv-loop μ-loop
 put-requires c κs =
@@ -91,7 +92,7 @@ run-spec =
     close-requires
     loop-holds
     add-newest
-    (λ c κs. c .loop-test .taken)
+    (λ c κs. search needs)
     cast-label
     step-requires
     sub-list

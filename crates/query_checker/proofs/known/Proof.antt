@@ -3,8 +3,8 @@ use mathlib.Core.Path.{sym, ap}
 use native.Mathlib.Omega.{arith}
 use borrow.Author.Tests.{lt-ltb, le-ltb}
 use Rattle.refusals.specs.Check.{check}
-use Rattle.query_answerer.proofs.batch.known.Statement.{statement}
-use Rattle.query_answerer.proofs.batch.known.Tie as tie
+use Rattle.query_checker.proofs.known.Statement.{statement}
+use Rattle.query_checker.proofs.known.Tie as tie
 
 pub known-spec : {M : Type 1} → statement M
 known-spec =
