@@ -7,7 +7,7 @@ use Prim.Native.Nat.{ℕ, zero, suc, _+_, _-_, _<_, _≤_}
 use native.Mathlib.Nat.{zero-add}
 use native.Mathlib.Omega.{arith}
 use borrow.Author.Tests.{leb-true, leb-false, ltb-true}
-use lib.Dec.{leb, ltb}
+use lib.Dec.{ltb}
 use lib.ListN.{length, getD, set, take, drop, replicate, length-set, length-drop}
 use lib.Seq.{getD-drop, drop-drop, take-suc-set, drop-set-lt, length-take-le}
 use mir.Val.{boolByte}
@@ -20,9 +20,9 @@ use Rattle.byte_parts.specs.Bytes.{between}
 use Rattle.byte_parts.specs.BytesLaws.{between-some}
 use Rattle.query_causes.specs.Query.{tables-fit, question, names-in, query, query-for, cause-of, asked, Accepts, Answered}
 use Rattle.query_causes.specs.Input.{links-of, Whole, Broken, is-whole, whole-size}
-use Rattle.query_simulation.specs.QueryLaws.{names-none, names-some, query-names, cause-none, cause-some, askable, accepted}
+use Rattle.query_simulation.specs.QueryLaws.{names-none, query-names, cause-none, cause-some, askable, accepted}
 use Rattle.query_simulation.specs.Reading.{Leads, Readable}
-use Rattle.query_simulation.specs.States.{Unused, Renewed}
+use Rattle.query_simulation.specs.States.{Renewed}
 use Rattle.query_simulation.specs.StatesLaws.{unused-zeros, unused-later}
 use Rattle.query_simulation.specs.TablesLaws.{Tables, tables}
 use Rattle.query_simulation.specs.Transitions.{transition-count}
@@ -139,7 +139,7 @@ module _ {heads moves : List ℕ} {names stamp : ℕ} {space : List ℕ} (ready 
   ready-renewed r = record { unused = r .unused; named = ready .named; indexed = λ some. indexed-behind (r .behind) (ready .indexed some) }
 
   -- a later stamp is newer too
-  pub ready-later : (later : ℕ) → stamp ≤ later → Ready heads moves names later space
+  ready-later : (later : ℕ) → stamp ≤ later → Ready heads moves names later space
   ready-later later l = record { unused = unused-later later l (ready .unused); named = ready .named; indexed = ready .indexed }
 
   -- one question is answered, by its bytes

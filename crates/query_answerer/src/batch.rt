@@ -2,7 +2,7 @@
 // number of links (16 bits, low byte first), links.
 ghost use mathlib.Core.Path.{_≡_};
 ghost use Prim.Native.Nat.{_+_, _<_, _≤_};
-ghost use lib.ListN.{length, drop, replicate};
+ghost use lib.ListN.{drop, replicate};
 ghost use Rattle.query_causes.specs.Input.{whole-size};
 ghost use Rattle.query_answerer.specs.Batch.{Ready, Asked, Batches};
 use crate::index::fill;

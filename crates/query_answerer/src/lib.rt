@@ -1,9 +1,7 @@
 // Answers a question put to tables: whether they accept a chain for a role, or the first cause of document 01, 12 to 14, that refuses
 // the question.
 ghost use Prim.Native.Nat.{_+_};
-ghost use mathlib.Core.Path.{_≡_};
-ghost use Rattle.query_causes.specs.Query.{query, asked, Answered};
-ghost use Rattle.base.specs.Result.Result.{ok};
+ghost use Rattle.query_causes.specs.Query.{asked, Answered};
 ghost use Rattle.base.specs.Reflects.{Reflects};
 ghost use Rattle.query_simulation.specs.Reading.{Leads, Askable};
 ghost use Rattle.query_answerer.specs.Answer.{says};
@@ -38,19 +36,13 @@ pub fn ask(heads: &[u16], moves: &[u16], role: u8, chain: &[u8]) -> Answer
     let question = query_checker::check(heads, moves, role, chain);
     match question {
         QueryVerdict::Refused(refusal) => Answer::Refused(refusal),
-        QueryVerdict::Fits => decided(heads, moves, role, chain),
+        QueryVerdict::Fits => {
+            if accepts(moves, role, chain, head(heads, role)) {
+                return Answer::Yes;
+            }
+            Answer::No
+        }
     }
-}
-
-// Yes or no, to a question that is not refused.
-fn decided(heads: &[u16], moves: &[u16], role: u8, chain: &[u8]) -> Answer
-    requires { ⌜ query (now heads) (now moves) role (now chain) ≡ ok tt ⌝ }
-    ensures { λ r. ⌜ Answered (now (heads .entry)) (now (moves .entry)) role (now (chain .entry)) (says r) ⌝ }
-{
-    if accepts(moves, role, chain, head(heads, role)) {
-        return Answer::Yes;
-    }
-    Answer::No
 }
 
 // Whether a path from the state `head` to the next one spells the chain, or its inverse for the inverse of a name. Small tables are read in a

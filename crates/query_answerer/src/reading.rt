@@ -17,7 +17,7 @@ pub(crate) fn run(
     role: u8,
     chain: &[u8],
     head: usize,
-    stamp: u16,
+    mut stamp: u16,
     space: &mut [u16],
 ) -> bool
     requires { ⌜ Readable (now moves) room stamp head (now chain) (now space) ⌝ }
@@ -27,16 +27,15 @@ pub(crate) fn run(
     let mut count = put(space, room, 0, stamp, 0, head);
     count = close(moves, room, space, 0, stamp, count);
     let mut list = 0;
-    let mut newest = stamp;
     let mut i = 0;
     while i < chain.len() {
-        newest += 1;
+        stamp += 1;
         let label = link(role, chain, i) as u16;
-        count = step(moves, room, label, space, list, count, newest);
+        count = step(moves, room, label, space, list, count, stamp);
         list = room - list;
         i += 1;
     }
-    space[2 * room + (head + 1)] == newest
+    space[2 * room + (head + 1)] == stamp
 }
 
 // Reads one link: fills the other list with what the states of this one reach by the label and then silently; returns its count.
@@ -70,19 +69,18 @@ fn close(
     space: &mut [u16],
     list: usize,
     stamp: u16,
-    count: usize,
+    mut count: usize,
 ) -> usize
     requires { ⌜ Active room stamp list (now moves) (now space) count ⌝ }
     ensures { λ r. ⌜ Closing (now (moves .entry)) room stamp list r (now (space .entry)) count (now (space .exit)) r ⌝ }
 {
-    let mut all = count;
     let mut i = 0;
-    while i < all {
+    while i < count {
         let slot = 2 * space[list + i] as usize + 1;
-        all = spread(moves, room, slot, 128, space, list, stamp, all);
+        count = spread(moves, room, slot, 128, space, list, stamp, count);
         i += 1;
     }
-    all
+    count
 }
 
 // Adds to the newest set the states to which transitions of one list with the label lead; returns its count.
@@ -94,20 +92,19 @@ fn spread(
     space: &mut [u16],
     list: usize,
     stamp: u16,
-    count: usize,
+    mut count: usize,
 ) -> usize
     requires { ⌜ Active room stamp list (now moves) (now space) count ⌝ }
     requires { ⌜ slot < 2 * room ⌝ }
     ensures { λ r. ⌜ Spread room stamp list (now (moves .entry)) slot label 0 (now (space .entry)) count (now (space .exit)) r ⌝ }
 {
-    let mut all = count;
     let mut at = space[3 * room + slot] as usize;
     while 0 < at {
         let next = space[5 * room + at - 1] as usize;
-        all = meet(moves, room, at - 1, label, space, list, stamp, all);
+        count = meet(moves, room, at - 1, label, space, list, stamp, count);
         at = next;
     }
-    all
+    count
 }
 
 // Adds to the newest set the state to which transition k leads if it has the label; returns the set's count.

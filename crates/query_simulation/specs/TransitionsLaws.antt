@@ -4,7 +4,6 @@ use mathlib.Core.Logic.{_⊎_, inl, inr}
 use mathlib.Core.Path.{_≡_, refl, sym, ap, _∙_}
 use Prim.Native.Nat.{ℕ, zero, suc, _+_, _*_, _<_}
 use native.Mathlib.Omega.{arith}
-use lib.Bits.{bitOr, or-add-and, and-le-l, and-le-r}
 use lib.ListN.{getD}
 use Rattle.tables.specs.Tables.{Transition}
 use Rattle.query_causes.specs.Query.{transitions-in}
@@ -60,7 +59,3 @@ numbered (x ∷ y ∷ z ∷ ms) p a q m = by-place (λ (n : Arrow ms p a q). num
           label-is = shift x y z ms (r .number) 1 ∙ r .label-is;
           to-is = shift x y z ms (r .number) 2 ∙ r .to-is;
         }
-
--- numbers are at most the one that has the bits of both
-pub below-both : (a b n : ℕ) → bitOr a b < n → (a < n) × (b < n)
-below-both a b n h = (omega (arith, or-add-and a b, and-le-r a b), omega (arith, or-add-and a b, and-le-l a b))

@@ -25,12 +25,21 @@ answer-requires c κs =
 add-stamp : tie.Need-add-stamp Inv-loop μ-loop
 add-stamp c =
     let found = c .before .before .before .before .before .before .before .before .before in
-    omega (arith, c .before .before .before .before .before .before .renew .ensures .small, whole-fits (found .before .before .loop .inv .0) (found .whole .ensures) (c .before .before .before .before .before .before .before .before .if1 .left), found .before .before .before .before .before .before .before .before .good)
+    omega (
+      arith,
+      c .before .before .before .before .before .before .renew .ensures .small,
+      whole-fits (found .before .before .loop .inv .0) (found .whole .ensures) (c .before .before .before .before .before .before .before .before .if1 .left),
+      found .before .before .before .before .before .before .before .before .good,
+    )
 
 add-read : tie.Need-add-read Inv-loop μ-loop
 add-read c =
     let found = c .before .before .before .before .before .before .before .before .before in
-    omega (arith, whole-fits (found .before .before .loop .inv .0) (found .whole .ensures) (c .before .before .before .before .before .before .before .before .if1 .left), found .before .before .before .before .before .before .before .before .good)
+    omega (
+      arith,
+      whole-fits (found .before .before .loop .inv .0) (found .whole .ensures) (c .before .before .before .before .before .before .before .before .if1 .left),
+      found .before .before .before .before .before .before .before .before .good,
+    )
 
 add-answered : tie.Need-add-answered Inv-loop μ-loop
 add-answered c =
@@ -46,8 +55,11 @@ loop-again : tie.Need-loop-again Inv-loop μ-loop
 loop-again c =
     let found = c .before .before .before .before .before .before .before .before .before in
     let at-loop = found .before .before .loop in
-    let asked = c .before .before .answer .ensures in
-    (going-next (at-loop .inv .0) (found .whole .ensures) (c .before .before .before .before .before .before .before .before .if1 .left) _ (found .before .loop-test .taken) (asked .answered), (asked .ready, c .before .space2 .given ∙ c .before .before .before .before .before .space .given ∙ at-loop .inv .1 .1))
+    let asked = c .before .before .answer .ensures in (
+      going-next (at-loop .inv .0) (found .whole .ensures) (c .before .before .before .before .before .before .before .before .if1 .left) _
+          (found .before .loop-test .taken) (asked .answered),
+      (asked .ready, c .before .space2 .given ∙ c .before .before .before .before .before .space .given ∙ at-loop .inv .1 .1),
+    )
 
 pub answer-each-spec : {M : Type 1} → statement M
 answer-each-spec =

@@ -11,7 +11,8 @@ fill-requires c κs =
     (named-tables _ _ named some .fit, ready-zeros _ _ named some (c .before .before .before .before .before .before .pre))
 
 returns-2 : tie.Need-returns-2
-returns-2 c = ready-fit _ _ (c .before .before .before .before .before .names-in .ensures) (c .before .before .before .before .if1 .left) (c .before .before .fill .ensures)
+returns-2 c = ready-fit _ _ (c .before .before .before .before .before .names-in .ensures)
+    (c .before .before .before .before .if1 .left) (c .before .before .fill .ensures)
 
 pub prepare-spec : {M : Type 1} → statement M
 prepare-spec =

@@ -1,6 +1,6 @@
 -- `fill` meets its contract. The invariant: the index holds the first k transitions, whose states are below the room.
 use mathlib.Core.Bool.{false≢true}
-use mathlib.Core.Path.{_≡_, refl, _∙_}
+use mathlib.Core.Path.{_≡_, refl}
 use Prim.Native.Nat.{_≤_, _-_}
 use native.Mathlib.Omega.{arith}
 use borrow.Author.Needs.{needs}
@@ -21,19 +21,32 @@ returns : tie.Need-returns Inv-loop μ-loop
 returns c =
     let found = c .before in
     let at-loop = found .before .before .loop in
-    record { all = λ fit. absurd (listed-none _ _ _ (found .before .loop-test .taken) (found .list-of .ensures) (c .if1 .taken) (fit (at-loop .k) (found .before .loop-test .taken))); prepared = λ h. absurd (false≢true h) }
+    let taken = found .before .loop-test .taken in
+    record {
+      all = λ fit. absurd (listed-none _ _ _ taken (found .list-of .ensures) (c .if1 .taken) (fit (at-loop .k) taken));
+      prepared = λ h. absurd (false≢true h);
+    }
 
 mul-space : tie.Need-mul-space Inv-loop μ-loop
 mul-space c =
     let found = c .before in
     let entry = found .before .before .before .before .before in
-    omega (arith, listed-some _ _ _ (found .before .loop-test .taken) (found .list-of .ensures) (c .if1 .left) (entry .pre .0), entry .pre .1 .indexed)
+    omega (
+      arith,
+      listed-some _ _ _ (found .before .loop-test .taken) (found .list-of .ensures) (c .if1 .left) (entry .pre .0),
+      entry .pre .1 .indexed,
+    )
 
 slice-read-space : tie.Need-slice-read-space Inv-loop μ-loop
 slice-read-space c =
     let found = c .before .before in
     let entry = found .before .before .before .before .before in
-    omega (arith, listed-some _ _ _ (found .before .loop-test .taken) (found .list-of .ensures) (c .before .if1 .left) (entry .pre .0), entry .pre .1 .indexed .space, found .before .before .loop .inv .1 .0)
+    omega (
+      arith,
+      listed-some _ _ _ (found .before .loop-test .taken) (found .list-of .ensures) (c .before .if1 .left) (entry .pre .0),
+      entry .pre .1 .indexed .space,
+      found .before .before .loop .inv .1 .0,
+    )
 
 add-space : tie.Need-add-space Inv-loop μ-loop
 add-space c = let tested = c .before .before .before in omega (arith, tested .loop-test .taken, tested .before .before .before .before .pre .1 .indexed)
@@ -57,13 +70,22 @@ mul-space-3 : tie.Need-mul-space-3 Inv-loop μ-loop
 mul-space-3 c =
     let found = c .before .before in
     let entry = found .before .before .before .before .before in
-    omega (arith, listed-some _ _ _ (found .before .loop-test .taken) (found .list-of .ensures) (c .before .if1 .left) (entry .pre .0), entry .pre .1 .indexed)
+    omega (
+      arith,
+      listed-some _ _ _ (found .before .loop-test .taken) (found .list-of .ensures) (c .before .if1 .left) (entry .pre .0),
+      entry .pre .1 .indexed,
+    )
 
 slice-write-space-2 : tie.Need-slice-write-space-2 Inv-loop μ-loop
 slice-write-space-2 c =
     let found = c .before .before in
     let entry = found .before .before .before .before .before in
-    simp length-set (omega (arith, listed-some _ _ _ (found .before .loop-test .taken) (found .list-of .ensures) (c .before .if1 .left) (entry .pre .0), entry .pre .1 .indexed .space, found .before .before .loop .inv .1 .0))
+    simp length-set (omega (
+      arith,
+      listed-some _ _ _ (found .before .loop-test .taken) (found .list-of .ensures) (c .before .if1 .left) (entry .pre .0),
+      entry .pre .1 .indexed .space,
+      found .before .before .loop .inv .1 .0,
+    ))
 
 loop-again : tie.Need-loop-again Inv-loop μ-loop
 loop-again c =

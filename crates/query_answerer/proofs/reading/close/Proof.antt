@@ -9,10 +9,10 @@ use Rattle.query_answerer.proofs.reading.close.Statement.{statement}
 use Rattle.query_answerer.proofs.reading.close.Tie as tie
 
 abbrev Inv-loop : tie.InvT-loop
-Inv-loop moves room space₀ list stamp count all₀ i₀ space all i = (i ≤ all) × Closing moves room stamp list i space₀ count space all
+Inv-loop moves room space₀ list stamp count₀ i₀ space count i = (i ≤ count) × Closing moves room stamp list i space₀ count₀ space count
 
 abbrev μ-loop : tie.MeasureT-loop
-μ-loop moves room space₀ list stamp count all₀ i₀ space all i = room - i
+μ-loop moves room space₀ list stamp count₀ i₀ space count i = room - i
 
 cast-slot : tie.Need-cast-slot Inv-loop μ-loop
 cast-slot c = omega (arith, c .slice-known2 .given (c .before .before .before .before .before .args .list + c .before .before .loop .i))
@@ -40,7 +40,7 @@ loop-again c =
     (omega (arith, c .before .before .spread .ensures .added .grows, at-loop-test .taken), closing-more (c .before .before .before .before .before .before .loop .inv .1) (at-loop-test .taken) (c .before .before .spread .ensures))
 
 returns : tie.Need-returns Inv-loop μ-loop
-returns c = let e : c .before .loop .i ≡ c .before .loop .all = omega (arith, c .before .loop .inv .0, c .loop-test .left) in rw e at (c .before .loop .inv .1)
+returns c = let e : c .before .loop .i ≡ c .before .loop .count = omega (arith, c .before .loop .inv .0, c .loop-test .left) in rw e at (c .before .loop .inv .1)
 
 pub close-spec : {M : Type 1} → statement M
 close-spec =

@@ -14,10 +14,10 @@ use Rattle.query_answerer.proofs.reading.run.Statement.{statement}
 use Rattle.query_answerer.proofs.reading.run.Tie as tie
 
 abbrev Inv-loop : tie.InvT-loop
-Inv-loop moves room role chain head stamp space₀ count₀ list₀ newest₀ i₀ space count list newest i = (i ≤ length chain) × ((newest ≡ stamp + i) × ((length space ≡ length space₀) × Read moves room newest list head (asked role chain) i space count))
+Inv-loop moves room role chain head stamp₀ space₀ count₀ list₀ i₀ stamp space count list i = (i ≤ length chain) × ((stamp ≡ stamp₀ + i) × ((length space ≡ length space₀) × Read moves room stamp list head (asked role chain) i space count))
 
 abbrev μ-loop : tie.MeasureT-loop
-μ-loop moves room role chain head stamp space₀ count₀ list₀ newest₀ i₀ space count list newest i = length chain - i
+μ-loop moves room role chain head stamp₀ space₀ count₀ list₀ i₀ stamp space count list i = length chain - i
 
 put-requires : tie.Need-put-requires Inv-loop μ-loop
 put-requires c κs =
@@ -32,8 +32,8 @@ close-requires c κs =
 loop-holds : tie.Need-loop-holds Inv-loop μ-loop
 loop-holds c = (omega arith, (omega arith, (refl, read-start _ _ (c .before .before .before .before .before .before .before .before .before .before .before .pre .prepared .indexed) (c .before .before .before .before .before .before .put .ensures) (c .before .before .close .ensures))))
 
-add-newest : tie.Need-add-newest Inv-loop μ-loop
-add-newest c =
+add-stamp : tie.Need-add-stamp Inv-loop μ-loop
+add-stamp c =
     let at-pre = c .before .before .before .before .before .before .before .before .before .before .before .before .before .pre in
     omega (arith, c .before .loop .inv .1 .0, c .loop-test .taken, at-pre .letters .few, at-pre .early)
 
@@ -91,7 +91,7 @@ run-spec =
     put-requires
     close-requires
     loop-holds
-    add-newest
+    add-stamp
     (λ c κs. search needs)
     cast-label
     step-requires

@@ -8,10 +8,10 @@ use Rattle.query_answerer.proofs.reading.spread.Statement.{statement}
 use Rattle.query_answerer.proofs.reading.spread.Tie as tie
 
 abbrev Inv-loop : tie.InvT-loop
-Inv-loop moves room slot label space₀ list stamp count all₀ at₀ space all at = Walked room stamp list moves slot label at space₀ count space all
+Inv-loop moves room slot label space₀ list stamp count₀ at₀ space count at = Walked room stamp list moves slot label at space₀ count₀ space count
 
 abbrev μ-loop : tie.MeasureT-loop
-μ-loop moves room slot label space₀ list stamp count all₀ at₀ space all at = at
+μ-loop moves room slot label space₀ list stamp count₀ at₀ space count at = at
 
 slice-read-at : tie.Need-slice-read-at Inv-loop μ-loop
 slice-read-at c =
