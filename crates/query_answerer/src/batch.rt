@@ -8,12 +8,12 @@ ghost use Rattle.query_answerer.specs.Batch.{Ready, Asked, Batches};
 use crate::index::fill;
 use crate::reading::run;
 use crate::states::renew;
+use byte_parts::byte;
 use query_checker::cause_for;
 use query_checker::names_in;
 use query_parts::head;
 use query_parts::links;
 use query_parts::whole;
-use byte_parts::byte;
 
 // How many questions are answered, and how many bytes of the input they take.
 pub struct Batch {

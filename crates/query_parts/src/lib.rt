@@ -6,10 +6,10 @@ ghost use Rattle.roles.specs.Role.{name as name-of};
 ghost use Rattle.byte_parts.specs.Bytes.{between};
 ghost use Rattle.query_causes.specs.Query.{asked};
 ghost use Rattle.query_causes.specs.Input.{whole-size};
+use byte_parts::part;
 use role_bytes::inverse;
 use role_bytes::is_inverse;
 use role_bytes::name;
-use byte_parts::part;
 use words::word;
 
 // How many bytes the whole question at a place of the input takes, or 0 where there is none.
