@@ -10,7 +10,7 @@ use crate::states::put;
 use query_parts::link;
 
 // Whether a path from the state `head` to the next one spells the chain, or its inverse if the role is the inverse of a name. The set after
-// i links has the i-th stamp after the given one; the links go to and fro between the two lists.
+// i links has the i-th stamp after the given one; the links go to and fro between the two lists. Once no state is left no link is read.
 pub(crate) fn run(
     moves: &[u16],
     room: usize,
@@ -29,6 +29,9 @@ pub(crate) fn run(
     let mut list = 0;
     let mut i = 0;
     while i < chain.len() {
+        if count == 0 {
+            return false;
+        }
         stamp += 1;
         let label = link(role, chain, i) as u16;
         count = step(moves, room, label, space, list, count, stamp);

@@ -1,5 +1,5 @@
 -- Laws of reading with sets of states: how the sets of a step follow from what was put into them, and what the last set decides.
-use mathlib.Core.Bool.{Bool}
+use mathlib.Core.Bool.{Bool, false, false≢true}
 use mathlib.Core.List.{List, [], _∷_}
 use mathlib.Core.Logic.{_⊎_, inl, inr}
 use mathlib.Core.Path.{_≡_, refl}
@@ -165,6 +165,10 @@ module _ {moves : List ℕ} {room stamp list : ℕ} (p : ℕ) (w : Chain) where
 
     pub read-left : Prepared room later moves (transition-count moves) s
     read-left = record { unused = unused-after (so-far .good) later newer; indexed = so-far .indexed }
+
+  -- no path is left where no member is
+  pub read-dead : {i : ℕ} {s : List ℕ} {count : ℕ} → Read moves room stamp list p w i s count → count ≡ 0 → (u : ℕ) → Reflects false (Leads moves p w u)
+  read-dead so-far none u = record { holds = λ h. absurd (false≢true h); fails = λ h path. omega (arith, so-far .forth u path .inside, none) }
 
   -- at the end the members are the states that the chain leads to
   module _ {s : List ℕ} {count : ℕ} (all : Read moves room stamp list p w (length w) s count) where

@@ -7,7 +7,7 @@ use lib.ListN.{length}
 use Rattle.query_causes.specs.Query.{asked}
 use Rattle.query_simulation.specs.AskedLaws.{asked-letter, read-link, read-asked}
 use Rattle.query_simulation.specs.Reading.{Read}
-use Rattle.query_simulation.specs.ReadingLaws.{read-start, read-steps, read-left}
+use Rattle.query_simulation.specs.ReadingLaws.{read-start, read-steps, read-left, read-dead}
 use Rattle.query_simulation.specs.StatesLaws.{states-none}
 use Rattle.query_simulation.specs.TransitionIndexLaws.{indexed-behind}
 use Rattle.query_answerer.proofs.reading.run.Statement.{statement}
@@ -32,27 +32,37 @@ close-requires c κs =
 loop-holds : tie.Need-loop-holds Inv-loop μ-loop
 loop-holds c = (omega arith, (omega arith, (refl, read-start _ _ (c .before .before .before .before .before .before .before .before .before .before .before .pre .prepared .indexed) (c .before .before .before .before .before .before .put .ensures) (c .before .before .close .ensures))))
 
+same-length : tie.Need-same-length Inv-loop μ-loop
+same-length c =
+    let at-loop = c .before .before in
+    at-loop .loop .inv .1 .1 .0 ∙ at-loop .before .before .space2 .given ∙ at-loop .before .before .before .before .before .before .space .given
+
+returns : tie.Need-returns Inv-loop μ-loop
+returns c =
+    let at-loop = c .before .before .loop in
+    (read-dead _ _ (at-loop .inv .1 .1 .1) (c .if1 .taken) _, read-left _ _ (at-loop .inv .1 .1 .1) (omega (arith, at-loop .inv .1 .0, c .before .loop-test .taken)))
+
 add-stamp : tie.Need-add-stamp Inv-loop μ-loop
 add-stamp c =
-    let at-pre = c .before .before .before .before .before .before .before .before .before .before .before .before .before .pre in
-    omega (arith, c .before .loop .inv .1 .0, c .loop-test .taken, at-pre .letters .few, at-pre .early)
+    let at-pre = c .before .before .before .before .before .before .before .before .before .before .before .before .before .before .pre in
+    omega (arith, c .before .before .loop .inv .1 .0, c .before .loop-test .taken, at-pre .letters .few, at-pre .early)
 
 cast-label : tie.Need-cast-label Inv-loop μ-loop
-cast-label c = omega (arith, asked-letter _ _ _ (c .before .loop-test .taken) (c .before .before .before .before .before .before .before .before .before .before .before .before .before .before .pre .letters) (c .link .ensures))
+cast-label c = omega (arith, asked-letter _ _ _ (c .before .before .loop-test .taken) (c .before .before .before .before .before .before .before .before .before .before .before .before .before .before .before .pre .letters) (c .link .ensures))
 
 step-requires : tie.Need-step-requires Inv-loop μ-loop
-step-requires c κs = read-steps _ _ (c .before .before .before .loop .inv .1 .1 .1) (omega arith) (asked-letter _ _ _ (c .before .before .loop-test .taken) (c .before .before .before .before .before .before .before .before .before .before .before .before .before .before .before .pre .letters) (c .before .link .ensures))
+step-requires c κs = read-steps _ _ (c .before .before .before .before .loop .inv .1 .1 .1) (omega arith) (asked-letter _ _ _ (c .before .before .before .loop-test .taken) (c .before .before .before .before .before .before .before .before .before .before .before .before .before .before .before .before .pre .letters) (c .before .link .ensures))
 
 sub-list : tie.Need-sub-list Inv-loop μ-loop
-sub-list c = omega (arith, c .before .before .before .before .before .before .loop .inv .1 .1 .1 .good .members .side)
+sub-list c = omega (arith, c .before .before .before .before .before .before .before .loop .inv .1 .1 .1 .good .members .side)
 
 add-i : tie.Need-add-i Inv-loop μ-loop
-add-i c = omega (arith, c .before .before .before .before .before .loop-test .taken, c .before .before .before .before .before .before .before .before .before .before .before .before .before .before .before .before .before .before .pre .letters .few)
+add-i c = omega (arith, c .before .before .before .before .before .before .loop-test .taken, c .before .before .before .before .before .before .before .before .before .before .before .before .before .before .before .before .before .before .before .pre .letters .few)
 
 loop-again : tie.Need-loop-again Inv-loop μ-loop
 loop-again c =
-    let at-loop-test = c .before .before .before .before .before .loop-test in
-    let at-loop = c .before .before .before .before .before .before .loop in
+    let at-loop-test = c .before .before .before .before .before .before .loop-test in
+    let at-loop = c .before .before .before .before .before .before .before .loop in
     (omega (arith, at-loop-test .taken), (omega (arith, at-loop .inv .1 .0), (c .before .space3 .given ∙ at-loop .inv .1 .1 .0, read-link _ _ _ (at-loop-test .taken) (at-loop .inv .1 .1 .1) (c .before .before .before .before .link .ensures) (c .before .before .step .ensures))))
 
 mul-result : tie.Need-mul-result Inv-loop μ-loop
@@ -76,11 +86,11 @@ mul-result-2 c =
 slice-read-result : tie.Need-slice-read-result Inv-loop μ-loop
 slice-read-result c = omega (arith, c .before .before .before .before .before .before .before .before .before .before .before .before .before .before .pre .inside, c .before .before .loop .inv .1 .1 .1 .good .members .size)
 
-same-length : tie.Need-same-length Inv-loop μ-loop
-same-length c = c .before .before .loop .inv .1 .1 .0 ∙ c .before .before .before .before .space2 .given ∙ c .before .before .before .before .before .before .before .before .space .given
+same-length-2 : tie.Need-same-length-2 Inv-loop μ-loop
+same-length-2 c = c .before .before .loop .inv .1 .1 .0 ∙ c .before .before .before .before .space2 .given ∙ c .before .before .before .before .before .before .before .before .space .given
 
-returns : tie.Need-returns Inv-loop μ-loop
-returns c = (read-asked _ _ _ (c .before .before .loop .inv .1 .1 .1) (omega (arith, c .before .before .loop .inv .0, c .before .loop-test .left)) (c .before .before .before .before .before .before .before .before .before .before .before .before .before .before .pre .inside), read-left _ _ (c .before .before .loop .inv .1 .1 .1) (omega (arith, c .before .before .loop .inv .0, c .before .before .loop .inv .1 .0)))
+returns-2 : tie.Need-returns-2 Inv-loop μ-loop
+returns-2 c = (read-asked _ _ _ (c .before .before .loop .inv .1 .1 .1) (omega (arith, c .before .before .loop .inv .0, c .before .loop-test .left)) (c .before .before .before .before .before .before .before .before .before .before .before .before .before .before .pre .inside), read-left _ _ (c .before .before .loop .inv .1 .1 .1) (omega (arith, c .before .before .loop .inv .0, c .before .before .loop .inv .1 .0)))
 
 pub run-spec : {M : Type 1} → statement M
 run-spec =
@@ -91,18 +101,20 @@ run-spec =
     put-requires
     close-requires
     loop-holds
+    same-length
+    returns
     add-stamp
     (λ c κs. search needs)
     cast-label
     step-requires
     sub-list
     add-i
-    (λ c. omega (arith, c .before .before .before .before .before .loop-test .taken))
+    (λ c. omega (arith, c .before .before .before .before .before .before .loop-test .taken))
     loop-again
     mul-result
     add-result
     add-result-2
     mul-result-2
     slice-read-result
-    same-length
-    returns)
+    same-length-2
+    returns-2)
