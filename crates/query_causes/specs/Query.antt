@@ -1,6 +1,6 @@
 -- A question put to tables (document 01, "Tables", last paragraph): causes 12 to 14, and the answer. The tables are any numbers; a book
 -- need not have given them.
-use mathlib.Core.Bool.{Bool, true, false, cond, _&&_}
+use mathlib.Core.Bool.{Bool, true, cond, _&&_}
 use mathlib.Core.List.{List, [], _∷_}
 use Prim.Native.Nat.{ℕ, _+_, _%_}
 use lib.Dec.{leb, ltb, eqb}

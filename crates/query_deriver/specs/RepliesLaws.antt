@@ -11,7 +11,6 @@ use Rattle.base.specs.Result.Result.{refused, ok}
 use Rattle.book_causes.specs.Accepted.{heads-of, moves-of, built, written}
 use Rattle.book_causes.specs.AcceptedLaws.{built-enough, building}
 use Rattle.query_causes.specs.Query.{question, Answered}
-use Rattle.query_correctness.specs.Reply.{posed}
 use Rattle.query_correctness.specs.Reply.Replied.{refuses, settled}
 use Rattle.query_correctness.specs.ReplyLaws.{decided, posed-fits, posed-refused, replied-refused}
 use Rattle.refusals.specs.declared.build.BuildRefusal.{BuildRefusal}
