@@ -13,8 +13,8 @@
  * - Every pointer is valid and aligned for its type, also where its length is 0: not null.
  * - A length counts elements, not bytes.
  * - Memory that a call writes overlaps nothing else that the same call is lent.
- * - Room on the stack: a build or a question takes up to 50 KB of it, a matter only for very small
- *   stacks.
+ * - Room on the stack: a build or a question takes up to 40 KB of it, rabbitsteel_derived up to
+ *   70 KB, a matter only for very small stacks.
  */
 #ifndef RABBITSTEEL_H
 #define RABBITSTEEL_H

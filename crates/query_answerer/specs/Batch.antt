@@ -7,7 +7,8 @@ use Prim.Native.Nat.{ℕ, zero, suc, _+_, _≤_}
 use lib.ListN.{length, getD, take, drop}
 use Rattle.base.specs.Result.{Result}
 use Rattle.base.specs.Result.Result.{refused, ok}
-use Rattle.query_causes.specs.Query.{names-in, Answered}
+use Rattle.query_causes.specs.Query.{Answered}
+use Rattle.query_causes.specs.ManyQueries.{names-in}
 use Rattle.query_causes.specs.Input.{links-of, Whole, Broken}
 use Rattle.query_simulation.specs.States.{Unused}
 use Rattle.query_simulation.specs.Transitions.{transition-count}

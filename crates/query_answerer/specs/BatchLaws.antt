@@ -18,8 +18,10 @@ use Rattle.base.specs.Decision.Decision.{refuses, yes, no}
 use Rattle.roles.specs.Role.{Chain, name}
 use Rattle.byte_parts.specs.Bytes.{between}
 use Rattle.byte_parts.specs.BytesLaws.{between-some}
-use Rattle.query_causes.specs.Query.{tables-fit, question, names-in, query, query-for, cause-of, asked, Accepts, Answered}
-use Rattle.query_causes.specs.Input.{links-of, Whole, Broken, is-whole, whole-size}
+use Rattle.query_causes.specs.Query.{tables-fit, question, query, asked, Accepts, Answered}
+use Rattle.query_causes.specs.ManyQueries.{names-in, query-for, cause-of}
+use Rattle.query_causes.specs.Input.{links-of, Whole, Broken, is-whole}
+use Rattle.query_causes.specs.ManyQueries.{whole-size}
 use Rattle.query_simulation.specs.QueryLaws.{names-none, query-names, cause-none, cause-some, askable, accepted}
 use Rattle.query_simulation.specs.Reading.{Leads, Readable}
 use Rattle.query_simulation.specs.States.{Renewed}

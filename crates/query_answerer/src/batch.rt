@@ -3,7 +3,7 @@
 ghost use mathlib.Core.Path.{_≡_};
 ghost use Prim.Native.Nat.{_+_, _<_, _≤_};
 ghost use lib.ListN.{drop, replicate};
-ghost use Rattle.query_causes.specs.Input.{whole-size};
+ghost use Rattle.query_causes.specs.ManyQueries.{whole-size};
 ghost use Rattle.query_answerer.specs.Batch.{Ready, Asked, Batches};
 use crate::index::fill;
 use crate::reading::run;

@@ -1,5 +1,5 @@
 -- Questions that follow one another on an input: each a role byte, the number of its links, 16 bits, low byte first, and the links.
-use mathlib.Core.Bool.{Bool, cond}
+use mathlib.Core.Bool.{Bool}
 use mathlib.Core.List.{List}
 use Prim.Native.Nat.{ℕ, _+_, _<_, _≤_}
 use lib.Dec.{leb}
@@ -19,7 +19,3 @@ Broken s = length s < 3 + links-of s
 
 abbrev pub is-whole : List ℕ → Bool
 is-whole s = leb (3 + links-of s) (length s)
-
--- how many bytes the question at the front of s takes, or 0 where it is not whole
-abbrev pub whole-size : List ℕ → ℕ
-whole-size s = cond (is-whole s) (3 + links-of s) 0

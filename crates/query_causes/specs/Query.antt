@@ -1,15 +1,15 @@
 -- A question put to tables (document 01, "Tables", last paragraph): causes 12 to 14, and the answer. The tables are any numbers; a book
 -- need not have given them.
-use mathlib.Core.Bool.{Bool, true, cond, _&&_}
+use mathlib.Core.Bool.{Bool, true, _&&_}
 use mathlib.Core.List.{List, [], _∷_}
 use Prim.Native.Nat.{ℕ, _+_, _%_}
-use lib.Dec.{leb, ltb, eqb}
+use lib.Dec.{leb, eqb}
 use lib.ListN.{length, getD}
 use Rattle.roles.specs.Role.{Chain, name, polarity, turn}
 use Rattle.tables.specs.Tables.{Transition}
 use Rattle.tables.specs.Path.{Path}
 use Rattle.base.specs.Result.{Result, demand}
-use Rattle.base.specs.Result.Result.{refused, ok}
+use Rattle.base.specs.Result.Result.{ok}
 use Rattle.base.specs.Decision.{Decision}
 use Rattle.book_format.specs.Format.{named}
 
@@ -47,19 +47,6 @@ question n r w = demand (chain-fits w) 13 0 (demand (named n (r ∷ w)) 14 0 (ok
 -- causes 12, 13 and 14, in this order
 unfoldable pub query : (heads moves : List ℕ) → ℕ → Chain → Result (Unit {0})
 query heads moves r w = demand (tables-fit heads moves) 12 0 (question (length heads) r w)
-
--- how many names tables have, or 0 where they do not fit
-abbrev pub names-in : (heads moves : List ℕ) → ℕ
-names-in heads moves = cond (tables-fit heads moves) (length heads) 0
-
--- causes 12, 13 and 14, in this order, for so many names: tables that fit have one
-abbrev pub query-for : ℕ → ℕ → Chain → Result (Unit {0})
-query-for n r w = demand (ltb 0 n) 12 0 (question n r w)
-
--- the number of the cause, or 0 where none refuses
-abbrev pub cause-of : Result (Unit {0}) → ℕ
-cause-of (refused cause value) = cause
-cause-of (ok a) = 0
 
 -- a question about the inverse of a name asks the name with the inverse of the chain
 unfoldable pub asked : ℕ → Chain → Chain

@@ -1,7 +1,8 @@
 // Checks a question, put to tables or for so many names: the first cause of document 01, 12 to 14, that refuses it.
 ghost use mathlib.Core.Path.{_≡_};
 ghost use lib.Dec.{ltb};
-ghost use Rattle.query_causes.specs.Query.{question, query, names-in, query-for, cause-of};
+ghost use Rattle.query_causes.specs.Query.{question, query};
+ghost use Rattle.query_causes.specs.ManyQueries.{names-in, query-for, cause-of};
 ghost use Rattle.refusals.specs.Check.{check as passed-where};
 ghost use Rattle.query_checker.specs.QueryVerdict.{says};
 

@@ -12,7 +12,8 @@ use Rattle.byte_parts.specs.Bytes.{between}
 use Rattle.byte_parts.specs.BytesLaws.{between-past, between-none}
 use Rattle.words.specs.Word.{word}
 use Rattle.words.specs.WordLaws.{word-drop}
-use Rattle.query_causes.specs.Input.{links-of, whole-size}
+use Rattle.query_causes.specs.Input.{links-of}
+use Rattle.query_causes.specs.ManyQueries.{whole-size}
 
 -- the question at the front of s is whole, or not
 module _ (s : List ℕ) where

@@ -5,7 +5,7 @@ ghost use lib.ListN.{getD, drop};
 ghost use Rattle.roles.specs.Role.{name as name-of};
 ghost use Rattle.byte_parts.specs.Bytes.{between};
 ghost use Rattle.query_causes.specs.Query.{asked};
-ghost use Rattle.query_causes.specs.Input.{whole-size};
+ghost use Rattle.query_causes.specs.ManyQueries.{whole-size};
 use byte_parts::part;
 use role_bytes::inverse;
 use role_bytes::is_inverse;

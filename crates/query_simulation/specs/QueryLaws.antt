@@ -16,7 +16,8 @@ use lib.Dec.{leb, ltb}
 use Rattle.base.specs.Truth.{and-right}
 use Rattle.base.specs.Reflects.{Reflects}
 use Rattle.tables.specs.Path.{Path}
-use Rattle.query_causes.specs.Query.{transitions-in, tables-fit, chain-fits, question, query, names-in, query-for, cause-of, asked, Accepts}
+use Rattle.query_causes.specs.Query.{transitions-in, tables-fit, chain-fits, question, query, asked, Accepts}
+use Rattle.query_causes.specs.ManyQueries.{names-in, query-for, cause-of}
 use Rattle.query_simulation.specs.Reading.{Letters, Askable}
 use Rattle.query_simulation.specs.TablesLaws.{Tables, tables}
 

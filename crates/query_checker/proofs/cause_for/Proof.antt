@@ -3,7 +3,7 @@ use mathlib.Core.Path.{sym, ap, _∙_}
 use Prim.Native.Nat.{_≤_}
 use native.Mathlib.Omega.{arith}
 use borrow.Author.Needs.{needs}
-use Rattle.query_causes.specs.Query.{cause-of}
+use Rattle.query_causes.specs.ManyQueries.{cause-of}
 use Rattle.query_simulation.specs.QueryLaws.{unnamed-cause, named-cause}
 use Rattle.refusals.specs.Check.{check-passed, check-failed}
 use Rattle.refusals.specs.QueryRefusals.{query-cause}
