@@ -78,9 +78,9 @@ module _ {s ix : List ℕ} {v : Verdict} (a : Checked s ix v) where
         by-verdict (WellFormed h) f g = let p = prepared h f in (λ _. (p .book .rules, p .index), rw g (p .few))
         by-verdict (Refused r) f g = (λ l. absurd (let d : ⊥ = omega arith in d), omega arith)
 
-    pub answers : {end : Place} → ((ρs : List Rule) → Indexed ρs ix → (fuel : ℕ) → Enough ix names fuel → Counted ρs fuel names end) → (heads moves : ℕ) {x : Outcome}
-        → x ≡ settled v (end .state) (end .count) heads moves → Answers s heads moves x
-    answers {end} c heads moves {x} f = rw f (by-verdict v refl e)
+    answers : {end : Place} → ((ρs : List Rule) → Indexed ρs ix → (fuel : ℕ) → Enough ix names fuel → Counted ρs fuel names end) → (heads moves : ℕ)
+        → Answers s heads moves (settled v (end .state) (end .count) heads moves)
+    answers {end} c heads moves = by-verdict v refl e
       where
         by-verdict : (w : Verdict) → v ≡ w → names ≡ names-of w → Answers s heads moves (settled w (end .state) (end .count) heads moves)
         by-verdict (WellFormed h) g n =
@@ -100,13 +100,23 @@ module _ {s ix : List ℕ} {v : Verdict} (a : Checked s ix v) where
         by-result (ok b) f g =
             prepare b (accepted-passed s b (built-accepted s heads moves b f) .ordered) (c .names) (ap (λ (x : Counts). x .names) (ok-injective c (counts-of b) g))
 
-    pub roots-ready : (x : Outcome) → Answers s heads moves x → {n : ℕ} → n ≡ names-in x → (0 < n → (ρs : List Rule) × Indexed ρs ix) × (n ≤ 64)
+    roots-ready : (x : Outcome) → Answers s heads moves x → {n : ℕ} → n ≡ names-in x → (0 < n → (ρs : List Rule) × Indexed ρs ix) × (n ≤ 64)
     roots-ready (outcome.Built c) e f = let p = counted c e in (λ _. (p .book .rules, p .index), rw f (p .few))
     roots-ready (outcome.Refused x) e f = (λ h. absurd (let g : ⊥ = omega arith in g), omega arith)
 
-  pub builds : {h m : List ℕ} (x : Outcome) → Answers s (length h) (length m) x → {q : Place} {h′ m′ : List ℕ} {n : ℕ} → n ≡ names-in x
+  builds : {h m : List ℕ} (x : Outcome) → Answers s (length h) (length m) x → {q : Place} {h′ m′ : List ℕ} {n : ℕ} → n ≡ names-in x
       → Rooted ix n q h h′ m m′ → Builds s h m h′ m′ x
   builds {h} {m} (outcome.Built c) e {q} {h′} {m′} f r =
       let p = counted (length h) (length m) c e in
       builds-laid s ix (c .names) p h m c e q h′ m′ ((rw f at r) .roots (p .book .rules) (p .index) (p .book .names) (p .levels))
   builds {h} {m} (outcome.Refused x) e f r = rw (r .none f .0, r .none f .1) (builds-refused s h m x e)
+
+  -- what laying asks for, and what a build has done, by the counts
+  module _ {names : ℕ} (e : names ≡ names-of v) {end : Place} (c : (ρs : List Rule) → Indexed ρs ix → (fuel : ℕ) → Enough ix names fuel → Counted ρs fuel names end) where
+    pub laying-ready : (heads moves : ℕ) {n : ℕ} → n ≡ names-in (settled v (end .state) (end .count) heads moves)
+        → (0 < n → (ρs : List Rule) × Indexed ρs ix) × (n ≤ 64)
+    laying-ready heads moves f = roots-ready heads moves (settled v (end .state) (end .count) heads moves) (answers e c heads moves) f
+
+    pub builds-settled : {h m : List ℕ} {x : Outcome} → x ≡ settled v (end .state) (end .count) (length h) (length m) → {q : Place} {h′ m′ : List ℕ} {n : ℕ}
+        → n ≡ names-in (settled v (end .state) (end .count) (length h) (length m)) → Rooted ix n q h h′ m m′ → Builds s h m h′ m′ x
+    builds-settled {h} {m} k f r = rw k (builds (settled v (end .state) (end .count) (length h) (length m)) (answers e c (length h) (length m)) f r)

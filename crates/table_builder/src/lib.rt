@@ -8,7 +8,7 @@ use lay::count;
 use lay::roots;
 pub use table_limits::Counts;
 pub use table_limits::Outcome;
-use table_limits::names_in;
+use table_limits::names_laid;
 use table_limits::names_of;
 use table_limits::settle;
 
@@ -20,7 +20,11 @@ pub fn build(book: &[u8], heads: &mut [u16], moves: &mut [u16]) -> Outcome
     let mut index = [0u16; 3904];
     let verdict = rule_index::index(book, &mut index);
     let end = count(&index, names_of(verdict));
-    let outcome = settle(verdict, end.state, end.count, heads.len(), moves.len());
-    roots(&index, names_in(outcome), heads, moves);
-    outcome
+    let states = end.state;
+    let transitions = end.count;
+    let lent_heads = heads.len();
+    let lent_moves = moves.len();
+    let names = names_laid(verdict, states, transitions, lent_heads, lent_moves);
+    roots(&index, names, heads, moves);
+    settle(verdict, states, transitions, lent_heads, lent_moves)
 }

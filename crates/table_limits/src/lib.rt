@@ -33,7 +33,7 @@ pub fn names_of(verdict: Verdict) -> usize
 }
 
 // The number of names that have been built: none where the book is refused.
-pub fn names_in(outcome: Outcome) -> usize
+fn names_in(outcome: Outcome) -> usize
     ensures { λ r. ⌜ r ≡ names-in outcome ⌝ }
 {
     match outcome {
@@ -57,6 +57,19 @@ pub fn settle(
         Verdict::Refused(refusal) => Outcome::Refused(BuildRefusal::Book(refusal)),
         Verdict::WellFormed(header) => limit(header.names, states, transitions, heads, moves),
     }
+}
+
+// The number of names to lay, of the same: none where the book is refused.
+pub fn names_laid(
+    verdict: Verdict,
+    states: usize,
+    transitions: usize,
+    heads: usize,
+    moves: usize,
+) -> usize
+    ensures { λ r. ⌜ r ≡ names-in (settled verdict states transitions heads moves) ⌝ }
+{
+    names_in(settle(verdict, states, transitions, heads, moves))
 }
 
 // Causes 9 to 11, in this order.
