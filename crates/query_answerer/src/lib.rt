@@ -4,7 +4,7 @@ ghost use Prim.Native.Nat.{_+_};
 ghost use Rattle.query_causes.specs.Query.{asked, Answered};
 ghost use Rattle.base.specs.Reflects.{Reflects};
 ghost use Rattle.query_simulation.specs.Reading.{Leads, Askable};
-ghost use Rattle.query_answerer.specs.Answer.{says};
+ghost use Rattle.query_parts.specs.Answer.{says};
 
 mod batch;
 mod index;
@@ -15,19 +15,10 @@ pub use batch::Batch;
 pub use batch::ask_all;
 use index::fill;
 use query_checker::QueryVerdict;
+pub use query_parts::Answer;
+use query_parts::answer_of;
 use query_parts::head;
 use reading::run;
-use refusals::QueryRefusal;
-
-// What a question is answered with.
-pub enum Answer {
-    // Some path spells the chain.
-    Yes,
-    // No path does.
-    No,
-    // The question is refused; the value beside each of its causes is 0.
-    Refused(QueryRefusal),
-}
 
 // Whether tables accept a chain for a role: the first refusal of causes 12, 13 and 14; else yes or no.
 pub fn ask(heads: &[u16], moves: &[u16], role: u8, chain: &[u8]) -> Answer
@@ -36,12 +27,7 @@ pub fn ask(heads: &[u16], moves: &[u16], role: u8, chain: &[u8]) -> Answer
     let question = query_checker::check(heads, moves, role, chain);
     match question {
         QueryVerdict::Refused(refusal) => Answer::Refused(refusal),
-        QueryVerdict::Fits => {
-            if accepts(moves, role, chain, head(heads, role)) {
-                return Answer::Yes;
-            }
-            Answer::No
-        }
+        QueryVerdict::Fits => { answer_of(accepts(moves, role, chain, head(heads, role))) }
     }
 }
 

@@ -19,8 +19,8 @@ use Rattle.refusals.specs.declared.query.QueryRefusal.{QueryRefusal}
 use Rattle.query_checker.specs.declared.QueryVerdict.{QueryVerdict as Found}
 use Rattle.refusals.specs.QueryRefusals.{query-cause}
 use Rattle.query_checker.specs.QueryVerdict.{says as found-says}
-use Rattle.query_answerer.specs.declared.Answer.{Answer}
-use Rattle.query_answerer.specs.Answer.{says as answer-says}
+use Rattle.query_parts.specs.declared.Answer.{Answer}
+use Rattle.query_parts.specs.Answer.{says as answer-says}
 use Rattle.table_limits.specs.declared.Counts.{Counts}
 use Rattle.table_limits.specs.declared.Outcome.the-variants.{Built, Refused}
 use Rattle.table_builder.specs.Builds.{Builds}

@@ -1,16 +1,39 @@
-// The parts of a question: where it lies on an input (role byte, number of links, 16 bits, low byte first, links), the state that its role starts
+// The parts of a question and its answer: where it lies on an input (role byte, number of links, 16 bits, low byte first, links), the state that its role starts
 // from, and its links as they are read. Every place is safe.
 ghost use mathlib.Core.Path.{_≡_};
 ghost use lib.ListN.{getD, drop};
 ghost use Rattle.roles.specs.Role.{name as name-of};
 ghost use Rattle.byte_parts.specs.Bytes.{between};
+ghost use Rattle.base.specs.Result.Result.{ok};
 ghost use Rattle.query_causes.specs.Query.{asked};
+ghost use Rattle.query_parts.specs.Answer.{says};
 ghost use Rattle.query_causes.specs.ManyQueries.{whole-size};
 use byte_parts::part;
+use refusals::QueryRefusal;
 use role_bytes::inverse;
 use role_bytes::is_inverse;
 use role_bytes::name;
 use words::word;
+
+// What a question is answered with.
+pub enum Answer {
+    // Some path spells the chain.
+    Yes,
+    // No path does.
+    No,
+    // The question is refused; the value beside each of its causes is 0.
+    Refused(QueryRefusal),
+}
+
+// The answer to a question that is not refused: yes where a path was found.
+pub fn answer_of(found: bool) -> Answer
+    ensures { λ r. ⌜ says r ≡ ok found ⌝ }
+{
+    if found {
+        return Answer::Yes;
+    }
+    Answer::No
+}
 
 // How many bytes the whole question at a place of the input takes, or 0 where there is none.
 pub fn whole(input: &[u8], at: usize) -> usize

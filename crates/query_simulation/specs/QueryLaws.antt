@@ -14,9 +14,10 @@ use Rattle.book_format.specs.DeclaredLaws.{named-all, named-link}
 use borrow.Author.Tests.{leb-true, lt-ltb}
 use lib.Dec.{leb, ltb}
 use Rattle.base.specs.Truth.{and-right}
+use Rattle.base.specs.Decision.Decision.{yes, no}
 use Rattle.base.specs.Reflects.{Reflects}
 use Rattle.tables.specs.Path.{Path}
-use Rattle.query_causes.specs.Query.{transitions-in, tables-fit, chain-fits, question, query, asked, Accepts}
+use Rattle.query_causes.specs.Query.{transitions-in, tables-fit, chain-fits, question, query, asked, Accepts, Answered}
 use Rattle.query_causes.specs.ManyQueries.{names-in, query-for, cause-of}
 use Rattle.query_simulation.specs.Reading.{Letters, Askable}
 use Rattle.query_simulation.specs.TablesLaws.{Tables, tables}
@@ -147,3 +148,8 @@ module _ (heads moves : List ℕ) (r : ℕ) (w : Chain) (passed : query heads mo
 
     pub accepted : {b : Bool} → Reflects b (Path (transitions-in moves) h (asked r w) (h + 1)) → Reflects b (Accepts heads moves r w)
     accepted d = rw e at d
+
+    -- what was found is the answer
+    pub answered : (b : Bool) → Reflects b (Path (transitions-in moves) h (asked r w) (h + 1)) → {x : Result Bool} → x ≡ ok b → Answered heads moves r w x
+    answered true d i = rw i (yes passed (accepted d .holds refl))
+    answered false d i = rw i (no passed (accepted d .fails refl))

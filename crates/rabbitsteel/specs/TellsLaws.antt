@@ -9,8 +9,8 @@ use Rattle.base.specs.Result.{Result, map-result}
 use Rattle.base.specs.Result.Result.{refused, ok}
 use Rattle.book_causes.specs.Accepted.{built}
 use Rattle.query_causes.specs.Query.{Answered}
-use Rattle.query_answerer.specs.declared.Answer.{Answer}
-use Rattle.query_answerer.specs.Answer as answers
+use Rattle.query_parts.specs.declared.Answer.{Answer}
+use Rattle.query_parts.specs.Answer as answers
 use Rattle.table_limits.specs.declared.Outcome.{Outcome}
 use Rattle.table_builder.specs.Builds as builder
 use Rattle.query_deriver.specs.declared.Reply.{Reply}

@@ -6,7 +6,7 @@ ghost use Rattle.book_format.specs.Format.{read};
 ghost use Rattle.base.specs.Result.{map-result};
 ghost use Rattle.base.specs.Result.Result.{refused};
 ghost use Rattle.refusals.specs.BuildRefusals.{build-cause, build-value};
-ghost use Rattle.query_answerer.specs.Answer.{says as answer-says};
+ghost use Rattle.query_parts.specs.Answer.{says as answer-says};
 ghost use Rattle.query_deriver.specs.Replies.{says as reply-says};
 ghost use Rattle.table_builder.specs.Builds.{says as outcome-says};
 ghost use Rattle.rabbitsteel.specs.Tells.{Tells, TellsBuild, TellsAnswer, TellsDerived, book-counts, header-counts, built-counts, bit};
