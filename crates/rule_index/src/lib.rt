@@ -1,6 +1,7 @@
 // An index of a book's rules by right name, 3,904 numbers: 14 for each rule, which say its right role, its shape and the next rule of the same
 // right name, then the first rule of each name, then the level of each name, then for each of the three kinds of rules which names have one. 256
 // stands for no rule.
+ghost use mathlib.Core.Bool.{cond};
 ghost use mathlib.Core.List.{List};
 ghost use mathlib.Core.Path.{_≡_};
 ghost use Prim.Native.Nat.{ℕ, _<_, _≤_};
@@ -110,4 +111,14 @@ fn link(rules: usize, index: &mut [u16])
         index[3584 + x] = k as u16;
         index[3712 + (64 * kind + x)] = 1;
     }
+}
+
+// The first rule whose mirror a fragment has: the first of its name if it is symmetric, else none.
+pub fn mirror_of(first: usize, symmetric: bool) -> usize
+    ensures { λ r. ⌜ r ≡ cond symmetric first 256 ⌝ }
+{
+    if symmetric {
+        return first;
+    }
+    256
 }

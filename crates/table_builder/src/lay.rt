@@ -1,5 +1,4 @@
 // Lays the fragments of roles depth first: numbers for their states, and their transitions in the order of document 01.
-ghost use mathlib.Core.Bool.{cond};
 ghost use mathlib.Core.List.{List};
 ghost use mathlib.Core.Path.{_≡_};
 ghost use Prim.Native.Nat.{ℕ, _<_, _≤_};
@@ -17,6 +16,7 @@ use crate::memo::keep;
 use crate::memo::number;
 use role_bytes::inverse;
 use role_bytes::name;
+use rule_index::mirror_of;
 use table_writer::Place;
 use table_writer::add;
 use table_writer::letters;
@@ -197,16 +197,6 @@ fn first_of(index: &[u16], role: u8) -> usize
     ensures { λ r. ⌜ r ≡ first-in (now (index .entry)) (name-of role) ⌝ }
 {
     number(index, 3584 + name(role) as usize)
-}
-
-// The first rule whose mirror a fragment has: the first of its name if it is symmetric, else none.
-fn mirror_of(first: usize, symmetric: bool) -> usize
-    ensures { λ r. ⌜ r ≡ cond symmetric first 256 ⌝ }
-{
-    if symmetric {
-        return first;
-    }
-    256
 }
 
 // Whether the rules of a role's name have form 4, kind 0, or form 5, kind 1.

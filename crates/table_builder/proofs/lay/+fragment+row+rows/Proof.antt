@@ -24,12 +24,12 @@ use Rattle.table_builder.proofs.lay.rows.Reads as rows
 use Rattle.table_builder.proofs.lay.rows.Kinds as rows-kinds
 use Rattle.table_builder.proofs.lay.+fragment+row+rows.Lts-rows as rows-lts
 use Rattle.role_bytes.proofs.inverse.Reads as inverse-reads
+use Rattle.rule_index.proofs.mirror_of.Reads as mirror-of-reads
 use Rattle.table_writer.proofs.add.Reads as add-reads
 use Rattle.table_writer.proofs.letters.Reads as letters-reads
 use Rattle.table_builder.proofs.lay.first_of.Reads as first-of-reads
 use Rattle.table_builder.proofs.lay.has_kind.Reads as has-kind-reads
 use Rattle.table_builder.proofs.lay.inner_role.Reads as inner-role-reads
-use Rattle.table_builder.proofs.lay.mirror_of.Reads as mirror-of-reads
 use Rattle.table_builder.proofs.lay.row_of.Reads as row-of-reads
 use Rattle.table_builder.proofs.memo.again.Reads as again-reads
 use Rattle.table_builder.proofs.memo.keep.Reads as keep-reads

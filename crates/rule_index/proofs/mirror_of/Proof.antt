@@ -1,7 +1,7 @@
 -- `mirror_of` meets its contract.
 use mathlib.Core.Path.{refl}
-use Rattle.table_builder.proofs.lay.mirror_of.Statement.{statement}
-use Rattle.table_builder.proofs.lay.mirror_of.Tie as tie
+use Rattle.rule_index.proofs.mirror_of.Statement.{statement}
+use Rattle.rule_index.proofs.mirror_of.Tie as tie
 
 pub mirror-of-spec : {M : Type 1} → statement M
 mirror-of-spec =
