@@ -7,6 +7,7 @@ use Prim.Native.Nat.{ℕ, _*_}
 use lib.Dec.{leb}
 use lib.ListN.{length}
 use Rattle.roles.specs.Rule.{Book}
+use Rattle.order.specs.Depth.{depth}
 use Rattle.tables.specs.Tables.{initial-states, transitions, state-count, numbers}
 use Rattle.base.specs.Result.{Result, demand, and-then}
 use Rattle.base.specs.Result.Result.{refused, ok}
@@ -20,6 +21,14 @@ states-of b = state-count (b .names) (b .rules)
 
 abbrev pub count-of : Book → ℕ
 count-of b = length (transitions (b .names) (b .rules))
+
+-- the depth of a book: the highest level of its names
+unfoldable pub depth-of : Book → ℕ
+depth-of b = depth (b .names) (b .rules)
+
+-- what the first line says of a book: states, transitions and depth
+abbrev pub summary : Book → ℕ × (ℕ × ℕ)
+summary b = (states-of b, (count-of b, depth-of b))
 
 -- the numbers that are written: an initial state for each name, and three for each transition
 abbrev pub heads-of : Book → List ℕ
@@ -56,6 +65,11 @@ built s heads moves = and-then (decode s) (built-book heads moves)
 pub record Building (s : List ℕ) (heads moves : ℕ) (b d : Book) : Type 0 where
   pub written : read s ≡ ok b
   pub source : built s heads moves ≡ ok d
+
+-- a number of a book; 0 where it is refused
+abbrev pub count-or-none : (Book → ℕ) → Result Book → ℕ
+count-or-none count (refused cause value) = 0
+count-or-none count (ok b) = count b
 
 -- what a lent table holds after the build: the new numbers and the old ones after them; the old ones alone where the build is refused
 abbrev pub written : Result Book → (Book → List ℕ) → List ℕ → List ℕ

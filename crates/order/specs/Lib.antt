@@ -5,6 +5,7 @@ pub mod Regular
 pub mod Leveled
 pub mod RoleOrder
 pub mod Closure
+pub mod Depth
 pub mod ClosureLaws
 pub mod Regularity
 pub mod LeveledLaws
