@@ -1,4 +1,4 @@
--- Rules that have a regular order have levels: the level of a name is how many names are lower.
+-- How many names are lower than a name, in an order on names: this number rises along the order.
 use mathlib.Core.Bool.{Bool, true, false}
 use mathlib.Core.List.{List, [], _∷_, List·Memᴰ, List·Memᴰ·not-nil}
 use mathlib.Core.List.List·Memᴰ.{List·Memᴰ·tail}
@@ -51,22 +51,3 @@ module _ (n : ℕ) (ρs : List Rule) (lower : ℕ → ℕ → Bool) (o : NameOrd
 
   pub rank-small : (x : ℕ) → x < n → count n (λ y. lower y x) < n
   rank-small x h = count-less n (λ y. lower y x) x h (not-own x)
-
-  rank-fits : (x : ℕ) (sh : Shape) → ((s : ℕ) → List·Memᴰ s (inner-of sh) → name s < n) → Lower (holds lower) x sh → Fits (λ (y : ℕ). count n (λ z. lower z y)) x sh
-  rank-fits x transitive named l = tt
-  rank-fits x symmetric named l = tt
-  rank-fits x (row f t w) named l = (l .0, λ s m. rank-lower (name s) x (named s m) (l .1 s m))
-
-  pub order-leveled : Named n ρs → Leveled n ρs
-  unfolding name
-  order-leveled named =
-      record {
-        level = λ x. count n (λ y. lower y x);
-        small = rank-small;
-        fits = λ ρ m. rank-fits (name (ρ .right)) (shape ρ) (λ s i. let h : s < 2 * n = named ρ m .1 s (inner-left ρ s i) in omega arith) (o .inner ρ m);
-      }
-
-pub regular-leveled : (n : ℕ) (ρs : List Rule) → Named n ρs → Regular ρs → Leveled n ρs
-regular-leveled n ρs named r =
-    let c = order-closed (lower-of (holds (r .below))) ρs (name-order (holds (r .below)) (turning (holds (r .below)) (r .order)) ρs (r .forms)) in
-    order-leveled n ρs (c .0) (c .1 .order) named

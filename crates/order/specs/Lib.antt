@@ -9,4 +9,6 @@ pub mod Depth
 pub mod ClosureLaws
 pub mod Regularity
 pub mod LeveledLaws
+pub mod Longest
+pub mod DepthLaws
 pub mod ShapeTests

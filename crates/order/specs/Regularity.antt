@@ -81,6 +81,9 @@ gather lower done (ρ ∷ rest) gathered c o =
 pub order-closed {ℓ} : (lower : ℕ → ℕ → Type ℓ) (ρs : List Rule) → NameOrder lower ρs → (gathered : ℕ → ℕ → Bool) × Closed ρs gathered
 order-closed lower ρs o = gather lower [] ρs no-order closed-none o
 
+pub regular-closed : (ρs : List Rule) → Regular ρs → (gathered : ℕ → ℕ → Bool) × Closed ρs gathered
+regular-closed ρs r = order-closed (lower-of (holds (r .below))) ρs (name-order (holds (r .below)) (turning (holds (r .below)) (r .order)) ρs (r .forms))
+
 -- an order of any kind, and document 001's variant
 pub regular-any {ℓ} : (below : ℕ → ℕ → Type ℓ) (ρs : List Rule) → RegularOrder below → Forms below ρs → Regular ρs
 regular-any below ρs o f =
@@ -94,9 +97,7 @@ regular001-any below ρs o f =
 
 pub same-books : (ρs : List Rule) → Regular ρs ↔ Regular001 ρs
 same-books ρs = (
-  λ r.
-      let c = order-closed (lower-of (holds (r .below))) ρs (name-order (holds (r .below)) (turning (holds (r .below)) (r .order)) ρs (r .forms)) in
-      closed-regular001 ρs (c .0) (c .1),
+  λ r. let c = regular-closed ρs r in closed-regular001 ρs (c .0) (c .1),
   λ r.
       let c = order-closed (lower-of (holds (r .below))) ρs (name-order (holds (r .below)) (turning001 (holds (r .below)) (r .order)) ρs (r .forms)) in
       closed-regular ρs (c .0) (c .1),

@@ -12,7 +12,7 @@ use Rattle.roles.specs.Rule.{Rule}
 use Rattle.roles.specs.Named.{Named}
 use Rattle.roles.specs.Derivation.{Derives}
 use Rattle.order.specs.Regular.{Regular}
-use Rattle.order.specs.LeveledLaws.{regular-leveled}
+use Rattle.order.specs.DepthLaws.{regular-leveled}
 use Rattle.tables.specs.Tables.{initial-states, transitions}
 use Rattle.tables.specs.Path.{Path}
 use Rattle.table_languages.specs.Derived.{language-derives, derives-language}

@@ -15,7 +15,7 @@ use Rattle.order.specs.Shape.{Shape, shape}
 use Rattle.order.specs.Shape.Shape.{transitive, symmetric, row}
 use Rattle.order.specs.Regular.{Regular}
 use Rattle.order.specs.Leveled.{Leveled}
-use Rattle.order.specs.LeveledLaws.{regular-leveled}
+use Rattle.order.specs.DepthLaws.{regular-leveled}
 use Rattle.order.specs.Closure.{inner-of}
 use Rattle.tables.specs.Tables.{rules-of, own-shapes, has-symmetric, row-size, rows-size, size-of, states-from}
 use Rattle.table_languages.specs.LeftSides.{Shaped, shape-shaped}
