@@ -46,7 +46,7 @@ has-single x y = by-order (lt-or-le y x) (eq-or-ne y x)
     by-order (inr p) (inr e) = rw (div-eq-of-lt (pow-lt {i = x} {j = y} (omega arith)), ne-eqb y x e) refl
 
 -- the bits of half a number
-has-half : (m y : ℕ) → has (m / 2) y ≡ has m (suc y)
+pub has-half : (m y : ℕ) → has (m / 2) y ≡ has m (suc y)
 unfolding has
 has-half m y = ap (λ (k : ℕ). eqb (k % 2) 1) (shr-shr m 1 y ∙ ap (λ (k : ℕ). m / 2 ^ k) (let e : 1 + y ≡ suc y = omega arith in e))
 
@@ -73,6 +73,11 @@ count-le zero P Q h = omega arith
 count-le (suc d) P Q h =
     omega
     (arith, bit-le (P 0) (Q 0) (h 0 (omega arith)), count-le d (λ k. P (suc k)) (λ k. Q (suc k)) (λ k p. h (suc k) (omega arith)))
+
+pub count-most : (d : ℕ) (P : ℕ → Bool) → count d P ≤ d
+unfolding count
+count-most zero P = omega arith
+count-most (suc d) P = omega (arith, bit-le (P 0) true (λ h. refl), count-most d (λ k. P (suc k)))
 
 -- a test that passes where another does, and once more, passes more often
 pub count-lt : (d : ℕ) (P Q : ℕ → Bool) → ((k : ℕ) → k < d → P k ≡ true → Q k ≡ true) → (z : ℕ) → z < d → P z ≡ false → Q z ≡ true

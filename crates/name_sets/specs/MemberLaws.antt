@@ -1,0 +1,110 @@
+-- Names in and out of sets: a name read by a shift, the set of one name, what two sets share, a name taken out, and the lowest name.
+use mathlib.Core.Bool.{Bool, true, false, cond, _&&_, true≢false}
+use mathlib.Core.Logic.{_⊎_, inl, inr}
+use mathlib.Core.Path.{_≡_, refl, sym, ap, _∙_}
+use Prim.Native.Nat.{ℕ, zero, suc, _+_, _*_, _/_, _%_, _^_, _<_, _≤_}
+use native.Mathlib.Nat.{one-mul, mod-lt, div-one, div-eq-of-lt, lt-of-lt-of-le}
+use native.Mathlib.Omega.{arith}
+use borrow.Author.Tests.{eq-eqb, ne-eqb, lt-ltb, le-ltb}
+use lib.Bits.{bitAnd, bitXor, and-mask, and-shr, and-mod, xor-shr, xor-mod}
+use lib.Count.{trailingZeros, under}
+use lib.Dec.{eqb, ltb, lit<}
+use lib.Pow.{pow-mono, shl-exact, shr-lt}
+use Rattle.base.specs.Truth.{eq-or-ne, lt-or-le}
+use Rattle.name_sets.specs.Mask.{has, only, count}
+use Rattle.name_sets.specs.MaskLaws.{has-zero, has-single, has-half, count-lt}
+
+pub has-shift : (m y : ℕ) → eqb (bitAnd (m / 2 ^ y) 1) 1 ≡ has m y
+unfolding has
+has-shift m y = ap (λ (k : ℕ). eqb k 1) (and-mask (m / 2 ^ y) 1)
+
+-- a set of 64 bits has no name from 64 on
+pub has-past : (m y : ℕ) → m < 2 ^ 64 → 64 ≤ y → has m y ≡ false
+unfolding has
+has-past m y h p = rw (div-eq-of-lt (lt-of-lt-of-le h (pow-mono p))) refl
+
+single-shift : (x : ℕ) → x < 64 → 1 * 2 ^ x % 2 ^ 64 ≡ 2 ^ x
+single-shift x h = shl-exact {a = 1} 1 x 64 (lit< tt) (omega arith) ∙ one-mul (2 ^ x)
+
+-- the set of one name, where it is below 64
+pub only-shift : (x : ℕ) → x < 64 → 1 * 2 ^ x % 2 ^ 64 ≡ only x
+unfolding only
+only-shift x h = single-shift x h ∙ rw (lt-ltb x 64 h) refl
+
+pub only-past : (x : ℕ) → 64 ≤ x → 0 ≡ only x
+unfolding only
+only-past x h = rw (le-ltb x 64 h) refl
+
+pub only-named : (x : ℕ) → x < 64 → only x ≡ 2 ^ x
+unfolding only
+only-named x h = rw (lt-ltb x 64 h) refl
+
+-- what two sets share
+and-bits : (p q : ℕ) → p < 2 → q < 2 → eqb (bitAnd p q) 1 ≡ (eqb p 1 && eqb q 1)
+and-bits zero zero h k = refl
+and-bits zero (suc zero) h k = refl
+and-bits zero (suc (suc q)) h k = absurd (let f : ⊥ = omega arith in f)
+and-bits (suc zero) zero h k = refl
+and-bits (suc zero) (suc zero) h k = refl
+and-bits (suc zero) (suc (suc q)) h k = absurd (let f : ⊥ = omega arith in f)
+and-bits (suc (suc p)) q h k = absurd (let f : ⊥ = omega arith in f)
+
+pub has-and : (a b y : ℕ) → has (bitAnd a b) y ≡ (has a y && has b y)
+unfolding has
+has-and a b y =
+    rw (and-shr a b y, and-mod (a / 2 ^ y) (b / 2 ^ y) 1)
+    (and-bits (a / 2 ^ y % 2) (b / 2 ^ y % 2) (mod-lt (a / 2 ^ y) (lit< tt)) (mod-lt (b / 2 ^ y) (lit< tt)))
+
+-- a name taken out: the others stay
+xor-bits : (p q : ℕ) → p < 2 → q < 2 → eqb q 1 ≡ false → eqb (bitXor p q) 1 ≡ eqb p 1
+xor-bits zero zero h k e = refl
+xor-bits (suc zero) zero h k e = refl
+xor-bits p (suc zero) h k e = absurd (true≢false e)
+xor-bits p (suc (suc q)) h k e = absurd (let f : ⊥ = omega arith in f)
+xor-bits (suc (suc p)) zero h k e = absurd (let f : ⊥ = omega arith in f)
+
+xor-same : (p q : ℕ) → p < 2 → q < 2 → eqb p 1 ≡ true → eqb q 1 ≡ true → eqb (bitXor p q) 1 ≡ false
+xor-same zero q h k e d = absurd (true≢false (sym e))
+xor-same (suc zero) zero h k e d = absurd (true≢false (sym d))
+xor-same (suc zero) (suc zero) h k e d = refl
+xor-same (suc zero) (suc (suc q)) h k e d = absurd (let f : ⊥ = omega arith in f)
+xor-same (suc (suc p)) q h k e d = absurd (let f : ⊥ = omega arith in f)
+
+module _ (m x : ℕ) where
+  pub without-other : (y : ℕ) → (y ≡ x → ⊥) → has (bitXor m (2 ^ x)) y ≡ has m y
+  unfolding has
+  without-other y e =
+      rw (xor-shr m (2 ^ x) y, xor-mod (m / 2 ^ y) (2 ^ x / 2 ^ y) 1)
+      (xor-bits (m / 2 ^ y % 2) (2 ^ x / 2 ^ y % 2) (mod-lt (m / 2 ^ y) (lit< tt)) (mod-lt (2 ^ x / 2 ^ y) (lit< tt)) (has-single x y ∙ ne-eqb y x e))
+
+  pub without-own : has m x ≡ true → has (bitXor m (2 ^ x)) x ≡ false
+  unfolding has
+  without-own h =
+      rw (xor-shr m (2 ^ x) x, xor-mod (m / 2 ^ x) (2 ^ x / 2 ^ x) 1)
+      (xor-same (m / 2 ^ x % 2) (2 ^ x / 2 ^ x % 2) (mod-lt (m / 2 ^ x) (lit< tt)) (mod-lt (2 ^ x / 2 ^ x) (lit< tt)) h (has-single x x ∙ eq-eqb x x refl))
+
+  -- and there are fewer of them
+  pub without-fewer : x < 64 → has m x ≡ true → count 64 (has (bitXor m (2 ^ x))) < count 64 (has m)
+  without-fewer p h = count-lt 64 (has (bitXor m (2 ^ x))) (has m) (λ k l e. by-place k e (eq-or-ne k x)) x p (without-own h) h
+    where
+      by-place : (k : ℕ) → has (bitXor m (2 ^ x)) k ≡ true → (k ≡ x) ⊎ (k ≡ x → ⊥) → has m k ≡ true
+      by-place k e (inl q) = rw q h
+      by-place k e (inr q) = sym (without-other k q) ∙ e
+
+has-odd : (m : ℕ) → m % 2 ≡ 1 → has m 0 ≡ true
+unfolding has
+has-odd m e = rw (div-one m) (eq-eqb (m % 2) 1 e)
+
+-- the lowest name of a set that has one
+pub lowest : (k m : ℕ) → 0 < m → m < 2 ^ k → (trailingZeros k m < k) × (has m (trailingZeros k m) ≡ true)
+unfolding trailingZeros
+lowest zero m p h = absurd (let f : ⊥ = omega arith in f)
+lowest (suc k) m p h = by-digit (m % 2) refl (lowest k (m / 2))
+  where
+    by-digit : (d : ℕ) → m % 2 ≡ d → (0 < m / 2 → m / 2 < 2 ^ k → (trailingZeros k (m / 2) < k) × (has (m / 2) (trailingZeros k (m / 2)) ≡ true))
+        → (under d (trailingZeros k (m / 2)) < suc k) × (has m (under d (trailingZeros k (m / 2))) ≡ true)
+    by-digit zero e below =
+        let b = below (omega arith) (shr-lt k 1 (let e : k + 1 ≡ suc k = omega arith in rw e h)) in
+        (omega (arith, b .0), sym (has-half m (trailingZeros k (m / 2))) ∙ b .1)
+    by-digit (suc zero) e below = (omega arith, has-odd m e)
+    by-digit (suc (suc d)) e below = absurd (let f : ⊥ = omega (arith, mod-lt m {m = 2} (lit< tt)) in f)
