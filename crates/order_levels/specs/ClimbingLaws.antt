@@ -229,9 +229,9 @@ module _ {masks tiers levels : List ℕ} {done : ℕ → Bool} {depth : ℕ} (sh
       by-tier : (k y : ℕ) → k < 65 → y < 64 → (k ≡ below) ⊎ (k ≡ below → ⊥) → (y ≡ x) ⊎ (y ≡ x → ⊥)
           → has (getD (set tiers below (bitOr (getD tiers below 0) (2 ^ x))) k 0) y ≡ ((done y || eqb y x) && eqb (getD (set levels x (below + 1)) y 0) (suc k))
       by-tier k y q r (inl d) (inl n) =
-          rw (d, n, joined-own tiers below x (omega (arith, below-few, a .tiers-size)) x, eq-eqb x x refl, own, eq-eqb (below + 1) (suc below) (omega arith), or-true, or-true) refl
+          rw (d, n, joined-own tiers below x (omega (arith, below-few, a .tiers-size)) x, eq-eqb x x refl, own, eq-eqb (below + 1) (suc below) (omega arith), or-true (has (getD tiers below 0) x), or-true (done x)) refl
       by-tier k y q r (inl d) (inr n) =
-          rw (d, joined-own tiers below x (omega (arith, below-few, a .tiers-size)) y, ne-eqb y x n, or-false, or-false, kept y n) (a .tier below y (omega (arith, below-few)) r)
+          rw (d, joined-own tiers below x (omega (arith, below-few, a .tiers-size)) y, ne-eqb y x n, or-false (has (getD tiers below 0) y), or-false (done y), kept y n) (a .tier below y (omega (arith, below-few)) r)
       by-tier k y q r (inr d) (inl n) =
           rw (n, getD-set-other tiers below k (bitOr (getD tiers below 0) (2 ^ x)) 0 d, own, a .tier k x q p, fresh, ne-eqb (below + 1) (suc k) (λ e. d (omega arith)), and-false) refl
       by-tier k y q r (inr d) (inr n) =
@@ -358,7 +358,7 @@ module _ {masks tiers levels : List ℕ} {walked names rest c depth : ℕ} (shor
         left-of y q t (inr n) = a .left y q (sym (without-other rest x y n) ∙ t)
 
         gone-of : (y : ℕ) → (y ≡ x) ⊎ (y ≡ x → ⊥) → gone walked names (bitXor rest (2 ^ x)) y ≡ (gone walked names rest y || eqb y x)
-        gone-of y (inl n) = rw (n, without-own rest x h, a .left x p h, eq-eqb x x refl, or-true, or-true) refl
+        gone-of y (inl n) = rw (n, without-own rest x h, a .left x p h, eq-eqb x x refl, or-true (has walked x), or-true (has walked x || (true && not (has rest x)))) refl
         gone-of y (inr n) = rw (without-other rest x y n, ne-eqb y x n, or-false) refl
 
 -- rank after rank

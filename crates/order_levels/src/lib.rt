@@ -4,8 +4,8 @@ ghost use Prim.Native.Nat.{ℕ, max, _≤_};
 ghost use lib.Bits.{bitOr};
 ghost use lib.ListN.{length, replicate};
 ghost use Rattle.name_sets.specs.Mask.{has};
-ghost use Rattle.order_levels.specs.Levels.{Climbs};
-ghost use Rattle.order_levels.specs.Climbing.{Ranked, Ready, Meets, Climbed, Climbed-rank};
+ghost use Rattle.order_levels.specs.Levels.{LeveledBy, Climbs};
+ghost use Rattle.order_levels.specs.Climbing.{Ranked, Climbed-rank, Meets, Climbed};
 
 use byte_parts::least;
 use name_sets::single;
@@ -21,12 +21,12 @@ pub struct Levels {
 pub fn levels_of(masks: &[u64]) -> Levels
     ensures { λ r. ⌜ Climbs (now (masks .entry)) r ⌝ }
 {
-    let names = least(masks.len(), 64);
+    let named = &masks[..least(masks.len(), 64)];
     let mut ranks = [0u64; 65];
-    let top = rank(&masks[..names], &mut ranks);
+    let top = rank(named, &mut ranks);
     let mut tiers = [0u64; 65];
     let mut levels = [0u8; 64];
-    let depth = climb(&masks[..names], &ranks, top, &mut tiers, &mut levels);
+    let depth = climb(named, &ranks, top, &mut tiers, &mut levels);
     Levels {
         levels: levels,
         depth: depth,
@@ -59,7 +59,7 @@ fn climb(
 ) -> usize
     requires { ⌜ (length (now masks) ≤ 64) × Ranked (now masks) (length (now masks)) (now ranks) top ⌝ }
     requires { ⌜ (now tiers ≡ replicate 65 0) × (now levels ≡ replicate 64 0) ⌝ }
-    ensures { λ r. ⌜ ((walked : ℕ) × Ready (now (masks .entry)) walked top × Climbed (now (masks .entry)) (has walked) (now (tiers .exit)) (now (levels .exit)) r) ⌝ }
+    ensures { λ r. ⌜ LeveledBy (now (masks .entry)) (now (levels .exit)) r ⌝ }
 {
     let mut depth = 0;
     let mut walked = 0;
@@ -83,7 +83,7 @@ fn climb_rank(
 ) -> usize
     requires { ⌜ (length (now masks) ≤ 64) × ((c : ℕ) × Climbed-rank (now masks) names walked c) ⌝ }
     requires { ⌜ Climbed (now masks) (has walked) (now tiers) (now levels) depth ⌝ }
-    ensures { λ r. ⌜ ((c : ℕ) → Climbed-rank (now (masks .entry)) names walked c → Climbed (now (masks .entry)) (has (bitOr walked names)) (now (tiers .exit)) (now (levels .exit)) r) ⌝ }
+    ensures { λ r. ⌜ Climbed (now (masks .entry)) (has (bitOr walked names)) (now (tiers .exit)) (now (levels .exit)) r ⌝ }
 {
     let mut deepest = depth;
     let mut rest = names;
