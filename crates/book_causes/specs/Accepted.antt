@@ -7,7 +7,7 @@ use Prim.Native.Nat.{ℕ, _*_}
 use lib.Dec.{leb}
 use lib.ListN.{length}
 use Rattle.roles.specs.Rule.{Book}
-use Rattle.order.specs.Depth.{depth}
+use Rattle.order.specs.Depth.{levels, depth}
 use Rattle.tables.specs.Tables.{initial-states, transitions, state-count, numbers}
 use Rattle.base.specs.Result.{Result, demand, and-then}
 use Rattle.base.specs.Result.Result.{refused, ok}
@@ -22,7 +22,10 @@ states-of b = state-count (b .names) (b .rules)
 abbrev pub count-of : Book → ℕ
 count-of b = length (transitions (b .names) (b .rules))
 
--- the depth of a book: the highest level of its names
+-- the levels of a book's names, and its depth
+abbrev pub levels-of : Book → List ℕ
+levels-of b = levels (b .names) (b .rules)
+
 unfoldable pub depth-of : Book → ℕ
 depth-of b = depth (b .names) (b .rules)
 

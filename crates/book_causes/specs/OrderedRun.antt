@@ -11,7 +11,7 @@ use Rattle.order.specs.Closure.{no-order, with-rule, clashes}
 use Rattle.order.specs.ClosureLaws.{Closed, closed-none, closed-with}
 use Rattle.base.specs.Result.{Result, and-then, map-result}
 use Rattle.base.specs.Result.Result.{refused, ok}
-use Rattle.base.specs.ResultLaws.{refused-ok, ok-injective, and-then-assoc, demand-rest}
+use Rattle.base.specs.ResultLaws.{refused-ok, ok-injective, and-then-assoc, demand-rest, map-refused}
 use Rattle.book_format.specs.Format.{decode, distinct-book, read}
 use Rattle.book_format.specs.ReadLaws.{rules-some}
 use Rattle.book_causes.specs.Ordered.{order-from, order-book, ordered, Judged}
@@ -78,8 +78,4 @@ ordered-read s b h = by-result (read s) (sym (ordered-then s) ∙ h)
 
 -- what causes 1 to 7 refuse is refused so
 pub ordered-refused : {A : Type 0} (f : Book → A) (s : List ℕ) {c v : ℕ} → refused c v ≡ map-result f (read s) → ordered s ≡ refused c v
-ordered-refused f s {c} {v} h = ordered-then s ∙ by-result (read s) h
-  where
-    by-result : (r : Result Book) → refused c v ≡ map-result f r → and-then r order-book ≡ refused c v
-    by-result (refused c′ v′) e = cc
-    by-result (ok b) e = absurd (refused-ok c v (f b) e)
+ordered-refused f s h = ordered-then s ∙ rw (map-refused f (read s) h) refl

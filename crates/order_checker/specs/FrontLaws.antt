@@ -8,10 +8,9 @@ use lib.ListN.{length, getD, take, length-take, List·getD-eq-default}
 use lib.Seq.{getD-take}
 use Rattle.base.specs.Truth.{lt-or-le}
 use Rattle.order.specs.Closure.{no-order}
-use Rattle.name_sets.specs.Mask.{has, Holds, count}
-use Rattle.name_sets.specs.MaskLaws.{has-zero, count-none}
+use Rattle.name_sets.specs.Mask.{has, Holds}
+use Rattle.name_sets.specs.MaskLaws.{has-zero}
 use Rattle.order_masks.specs.AbsorbLaws.{above-none, grown, Absorbing}
-use Rattle.order_masks.specs.CountLaws.{Counting}
 
 -- the front of masks that hold no order holds none
 pub holds-front : (n : ℕ) (masks : List ℕ) → Holds masks no-order → Holds (take n masks) no-order
@@ -31,12 +30,3 @@ absorbing-past {old} {right} {lower} {new} {x} p q r a =
     by-place z (inl l) = a .past z l
     by-place z (inr l) =
         a .ahead z l ∙ rw (List·getD-eq-default old 0 {n = z} (omega arith), above-none right z 0 (omega arith) (has-zero right)) refl
-
--- a walk past the last mask has counted the names, for all names
-pub counting-past : {masks levels : List ℕ} {x : ℕ} → length masks ≤ x → Counting masks levels x
-    → (z : ℕ) → z < 64 → getD levels z 0 ≡ count 64 (has (getD masks z 0))
-counting-past {masks} {levels} {x} p c z q = by-place (lt-or-le z x)
-  where
-    by-place : (z < x) ⊎ (x ≤ z) → getD levels z 0 ≡ count 64 (has (getD masks z 0))
-    by-place (inl l) = c .past z l
-    by-place (inr l) = rw (List·getD-eq-default masks 0 {n = z} (omega arith)) (c .left z l q ∙ sym (count-none 64 (has 0) has-zero))

@@ -1,12 +1,11 @@
-// The order check: whether a book has a regular order, cause 8 of document 01, and levels that follow it.
+// The order check: whether a book has a regular order, cause 8 of document 01, and the levels of its names.
 ghost use mathlib.Core.Bool.{true};
 ghost use mathlib.Core.List.{_∷_};
 ghost use mathlib.Core.Path.{_≡_};
-ghost use Prim.Native.Nat.{ℕ, _<_, _≤_};
-ghost use lib.ListN.{length, getD};
+ghost use Prim.Native.Nat.{_≤_};
+ghost use lib.ListN.{length};
 ghost use Rattle.order.specs.Closure.{no-order};
-ghost use Rattle.name_sets.specs.Mask.{Holds, count};
-ghost use Rattle.name_sets.specs.Mask.{has as has-of};
+ghost use Rattle.name_sets.specs.Mask.{Holds};
 ghost use Rattle.base.specs.Result.{map-result};
 ghost use Rattle.base.specs.Result.Result.{ok};
 ghost use Rattle.book_format.specs.Format.{named};
@@ -22,17 +21,19 @@ use book_cursor::Step;
 use book_decoder::Header;
 use book_decoder::Verdict;
 use masks::absorb;
-use masks::has;
 use masks::reached;
+use name_sets::has;
+use order_levels::levels_of;
 use refusals::BookRefusal;
 use rule_shapes::Shape;
 use rule_shapes::shape_of;
 
-// The verdict on a book by causes 1 to 8 and, where it passes, a level for each name: the inner names of each rule are of lower level
-// than its right name. Levels are 0 where the book is refused.
+// The verdict on a book by causes 1 to 8 and, where it passes, the level of each name and the highest of them. All are 0 where the book is
+// refused, and so are the levels of names that it does not have.
 pub struct Ordering {
     pub verdict: Verdict,
     pub levels: [u8; 64],
+    pub depth: usize,
 }
 
 // Checks the order of a book.
@@ -44,6 +45,7 @@ pub fn order(book: &[u8]) -> Ordering
         return Ordering {
             verdict: verdict,
             levels: [0u8; 64],
+            depth: 0,
         };
     };
     let names = header.names;
@@ -53,11 +55,15 @@ pub fn order(book: &[u8]) -> Ordering
         return Ordering {
             verdict: gathered,
             levels: [0u8; 64],
+            depth: 0,
         };
     };
+    let found = levels_of(&masks[..names]);
+    let levels = found.levels;
     Ordering {
         verdict: gathered,
-        levels: counted(&masks[..names]),
+        levels: levels,
+        depth: found.depth,
     }
 }
 
@@ -118,21 +124,4 @@ fn add_rule(left: &[u8], right: u8, masks: &mut [u64]) -> Gathered
     }
     absorb(masks, over, lower);
     Gathered::Extends
-}
-
-// How many names each name has below it; a name without a mask has none.
-fn counted(masks: &[u64]) -> [u8; 64]
-    requires { ⌜ length (now masks) ≤ 64 ⌝ }
-    ensures { λ r. ⌜ (length r ≡ 64) × ((x : ℕ) → x < 64 → getD r x 0 ≡ count 64 (has-of (getD (now (masks .entry)) x 0))) ⌝ }
-{
-    let mut levels = [0u8; 64];
-    let mut x = 0;
-    while x < masks.len() {
-        let mask = masks[x];
-        if mask != 0 {
-            levels[x] = u64::count_ones(mask) as u8;
-        }
-        x += 1;
-    }
-    levels
 }

@@ -1,29 +1,15 @@
-// Sets of names as bit masks of 64 bits.
+// Masks that hold an order: mask x is the set of the names lower than name x.
 ghost use mathlib.Core.Bool.{Bool};
 ghost use mathlib.Core.Path.{_≡_};
-ghost use Prim.Native.Nat.{ℕ, _*_, _^_, _<_, _≤_};
+ghost use Prim.Native.Nat.{ℕ, _*_, _<_, _≤_};
 ghost use lib.ListN.{length, getD};
 ghost use Rattle.roles.specs.Role.{Chain};
 ghost use Rattle.order.specs.Closure.{reaches, with-inner};
 ghost use Rattle.name_sets.specs.Mask.{Holds};
 ghost use Rattle.name_sets.specs.Mask.{has as has-of};
+use name_sets::has;
+use name_sets::single;
 use role_bytes::name;
-
-// Whether name y is in the set.
-pub(crate) fn has(mask: u64, y: usize) -> bool
-    requires { ⌜ y < 64 ⌝ }
-    ensures { λ r. ⌜ r ≡ has-of mask y ⌝ }
-{
-    (mask >> y) & 1 == 1
-}
-
-// The set of name x alone.
-fn single(x: usize) -> u64
-    requires { ⌜ x < 64 ⌝ }
-    ensures { λ r. ⌜ r ≡ 2 ^ x ⌝ }
-{
-    1 << x
-}
 
 // The names of some roles, and all names lower than these.
 pub(crate) fn reached(roles: &[u8], masks: &[u64]) -> u64

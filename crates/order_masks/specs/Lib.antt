@@ -1,4 +1,3 @@
 pub mod AbsorbLaws
-pub mod CountLaws
 pub mod MaskLevels
 pub mod ReachLaws

@@ -1,67 +1,95 @@
--- Levels from the gathered order, as masks hold it: the level of a name is how many names are lower than it.
-use mathlib.Core.Bool.{Bool, false}
-use mathlib.Core.List.{List, List·Memᴰ}
-use mathlib.Core.Path.{_≡_, refl, ap, _∙_}
-use Prim.Native.Nat.{ℕ, zero, suc, _+_, _*_, _<_, _≤_}
-use native.Mathlib.Nat.{not-suc-le-zero, le-of-suc-le-suc}
+-- Levels found by masks that hold the gathered order are those of the rules.
+use mathlib.Core.Bool.{Bool, true}
+use mathlib.Core.List.{List}
+use mathlib.Core.Logic.{_⊎_, inl, inr}
+use mathlib.Core.Path.{_≡_, sym, ap, _∙_}
+use Prim.Native.Nat.{ℕ, suc, _+_, _-_, _<_, _≤_}
+use native.Mathlib.Nat.{le-antisymm}
 use native.Mathlib.Omega.{arith}
-use lib.ListN.{getD}
-use Rattle.roles.specs.Role.{name}
+use lib.ListN.{length, getD, replicate, length-replicate, getD-replicate, List·getD-append}
+use lib.Seq.{ext-getD, getD-append-add, getD-drop}
+use Rattle.base.specs.Truth.{lt-or-le}
+use Rattle.base.specs.Writing.{over}
+use Rattle.base.specs.WritingLaws.{over-length}
 use Rattle.roles.specs.Rule.{Rule}
 use Rattle.roles.specs.Named.{Named}
-use Rattle.base.specs.Truth.{not-true-false}
-use Rattle.order.specs.Shape.{Shape, shape}
-use Rattle.order.specs.Shape.Shape.{transitive, symmetric, row}
-use Rattle.order.specs.Regular.{holds}
-use Rattle.order.specs.Leveled.{Lower, Fits}
-use Rattle.order.specs.LeveledLaws.{inner-left, rank-lower, rank-small}
-use Rattle.order.specs.Closure.{inner-of}
-use Rattle.order.specs.ClosureLaws.{Closed, Forced}
-use Rattle.order.specs.ClosureLaws.Forced.{edge, along}
-use Rattle.name_sets.specs.Mask.{has, Holds, bit, count}
+use Rattle.name_sets.specs.Mask.{has, Holds, count}
 use Rattle.name_sets.specs.MaskLaws.{count-same}
+use Rattle.order.specs.Regular.{holds}
+use Rattle.order.specs.ClosureLaws.{Closed, Forced, forced-lower}
+use Rattle.order.specs.LeveledLaws.{rank-lower}
+use Rattle.order.specs.Depth.{highest, level, levels, depth}
+use Rattle.order.specs.DepthLaws.{forced-low, forced-high, levels-length, levels-at, levels-longest, highest-at, highest-met}
+use Rattle.order.specs.Longest.{Longest, longest-one}
+use Rattle.order_levels.specs.Levels.{rank, Under, LeveledBy}
 
--- only names below n are lower than others
-forced-named : (n : ℕ) (ρs : List Rule) → Named n ρs → {y z : ℕ} → Forced ρs y z → y < n
-unfolding name
-forced-named n ρs named (edge ρ m s i) = let h : s < 2 * n = named ρ m .1 s (inner-left ρ s i) in omega arith
-forced-named n ρs named (along x y z p q) = forced-named n ρs named p
+module _ (n : ℕ) (ρs : List Rule) (named : Named n ρs) (few : n ≤ 64) {lower : ℕ → ℕ → Bool} (c : Closed ρs lower) {masks : List ℕ} (size : length masks ≡ n)
+    (h : Holds masks lower) where
+  rank-count : (x : ℕ) → x < n → rank masks x ≡ count 64 (λ y. lower y x)
+  rank-count x p = count-same 64 (has (getD masks x 0)) (λ y. lower y x) (λ y q. h .bits x y (omega arith) q)
 
-count-none : (d : ℕ) (P : ℕ → Bool) → ((k : ℕ) → k < d → P k ≡ false) → count d P ≡ 0
-unfolding count
-count-none zero P h = refl
-count-none (suc d) P h = rw (h 0 (omega arith), count-none d (λ k. P (suc k)) (λ k l. h (suc k) (omega arith))) refl
+  -- what the rules force below a name is under it in the masks, and nothing else is
+  forced-under : (y x : ℕ) → Forced ρs y x → Under masks y x
+  forced-under y x f =
+      let p : y < n = forced-low n ρs named f in
+      let q : x < n = forced-high n ρs named f in
+      let l = forced-lower (holds lower) ρs (c .order) f in
+      record {
+        masked = rw size p;
+        within = h .bits x y (omega arith) (omega arith) ∙ l;
+        lower = rw (rank-count y p, rank-count x q) (rank-lower 64 ρs lower (c .order) y x (omega arith) l);
+      }
 
--- a test that fails from n on
-count-front : (n d : ℕ) (P : ℕ → Bool) → n ≤ d → ((k : ℕ) → n ≤ k → P k ≡ false) → count d P ≡ count n P
-unfolding count
-count-front zero d P h f = count-none d P (λ k l. f k (omega arith))
-count-front (suc n) zero P h f = absurd (not-suc-le-zero h)
-count-front (suc n) (suc d) P h f = ap (λ (k : ℕ). bit (P 0) + k) (count-front n d (λ k. P (suc k)) (le-of-suc-le-suc h) (λ k l. f (suc k) (omega arith)))
+  under-forced : (y x : ℕ) → x < n → Under masks y x → Forced ρs y x
+  under-forced y x p u = c .forced y x (sym (h .bits x y (omega arith) (omega (arith, u .masked, size))) ∙ u .within)
 
--- levels that count the names of masks that hold the gathered order
-module _ (ρs : List Rule) (lower : ℕ → ℕ → Bool) (c : Closed ρs lower) (masks : List ℕ) (h : Holds masks lower) (levels : List ℕ)
-    (e : (x : ℕ) → x < 64 → getD levels x 0 ≡ count 64 (has (getD masks x 0))) where
-  level-count : (x : ℕ) → x < 64 → getD levels x 0 ≡ count 64 (λ y. lower y x)
-  level-count x p = e x p ∙ count-same 64 (has (getD masks x 0)) (λ y. lower y x) (λ y q. h .bits x y p q)
+  module _ {found : List ℕ} {highest-found : ℕ} (l : LeveledBy masks found highest-found) where
+    longest : Longest n (Forced ρs) (λ x. getD found x 0)
+    longest =
+        record {
+          rises = λ y x f. l .longest .rises y x (forced-under y x f);
+          reached = λ x p. by-case x p (l .longest .reached x (rw size p));
+        }
+      where
+        by-case : (x : ℕ) → x < n → (getD found x 0 ≡ 1) ⊎ ((y : ℕ) × (y < length masks) × Under masks y x × (getD found x 0 ≡ suc (getD found y 0)))
+            → (getD found x 0 ≡ 1) ⊎ ((y : ℕ) × (y < n) × Forced ρs y x × (getD found x 0 ≡ suc (getD found y 0)))
+        by-case x p (inl e) = inl e
+        by-case x p (inr (y, q, u, e)) = inr (y, rw size at q, under-forced y x p u, e)
 
-  pub levels-small : (x : ℕ) → x < 64 → getD levels x 0 < 64
-  levels-small x p = rw (level-count x p) (rank-small 64 ρs lower (c .order) x p)
+    level-found : (x : ℕ) → x < n → getD found x 0 ≡ level n ρs x
+    level-found = longest-one longest (levels-longest n ρs named c)
 
-  levels-lower : (x : ℕ) (sh : Shape) → x < 64 → ((s : ℕ) → List·Memᴰ s (inner-of sh) → name s < 64) → Lower (holds lower) x sh → Fits (λ x. getD levels x 0) x sh
-  levels-lower x transitive p n l = tt
-  levels-lower x symmetric p n l = tt
-  levels-lower x (row from to inner) p n l = (
-    l .0,
-    λ s m. rw (level-count (name s) (n s m), level-count x p) (rank-lower 64 ρs lower (c .order) (name s) x (n s m) (l .1 s m)),
-  )
+    given : (x : ℕ) → x < n → getD (levels n ρs) x 0 ≡ level n ρs x
+    given x p = levels-at ρs n n 0 x p ∙ ap (level n ρs) (let e : 0 + x ≡ x = omega arith in e)
 
-  pub levels-fit : (ρ : Rule) → List·Memᴰ ρ ρs → name (ρ .right) < 64 → ((s : ℕ) → List·Memᴰ s (ρ .left) → name s < 64)
-      → Fits (λ x. getD levels x 0) (name (ρ .right)) (shape ρ)
-  levels-fit ρ m p n = levels-lower (name (ρ .right)) (shape ρ) p (λ s k. n s (inner-left ρ s k)) (c .order .inner ρ m)
+    -- a level for each name, and 0 for all other numbers
+    pub levels-found : found ≡ over (levels n ρs) (replicate 64 0)
+    levels-found =
+        ext-getD 0 found (over (levels n ρs) (replicate 64 0))
+        (l .size ∙ sym (over-length (levels n ρs) (replicate 64 0) (rw (levels-length, length-replicate {A = ℕ} 64 0) few) ∙ length-replicate {A = ℕ} 64 0))
+        (λ x p. by-place x (rw (l .size) at p) (lt-or-le x n))
+      where
+        by-place : (x : ℕ) → x < 64 → (x < n) ⊎ (n ≤ x) → getD found x 0 ≡ getD (over (levels n ρs) (replicate 64 0)) x 0
+        by-place x p (inl q) = level-found x q ∙ sym (given x q) ∙ sym (List·getD-append (levels n ρs) _ 0 x (rw levels-length q))
+        by-place x p (inr q) =
+            let e : x ≡ length (levels n ρs) + (x - n) = omega (arith, levels-length ρs n n 0) in
+            let d : length (levels n ρs) + (x - n) < 64 = omega (arith, levels-length ρs n n 0) in
+            l .others x (rw size q)
+            ∙ sym (ap (λ (k : ℕ). getD (over (levels n ρs) (replicate 64 0)) k 0) e ∙ getD-append-add (levels n ρs) _ (x - n) 0 ∙ getD-drop (length (levels n ρs)) (replicate 64 0) (x - n) 0 ∙ getD-replicate {A = ℕ} 64 _ 0 0 d)
 
-  -- with n names, the levels of these are below n
-  pub levels-few : (n : ℕ) → n ≤ 64 → Named n ρs → (x : ℕ) → x < n → getD levels x 0 < n
-  levels-few n few named x p =
-      rw (level-count x (omega arith), count-front n 64 (λ y. lower y x) few (λ y q. not-true-false (lower y x) (λ l. let f : y < n = forced-named n ρs named (c .forced y x l) in omega arith)))
-      (rank-small n ρs lower (c .order) x p)
+    pub depth-found : highest-found ≡ depth n ρs
+    depth-found = l .depth-is ∙ le-antisymm (by-found (highest-met found)) (by-given (highest-met (levels n ρs)))
+      where
+        by-place : (x : ℕ) → (x < n) ⊎ (n ≤ x) → getD found x 0 ≤ depth n ρs
+        by-place x (inl q) = rw (level-found x q, ← given x q) (highest-at (levels n ρs) x (rw levels-length q))
+        by-place x (inr q) = omega (arith, l .others x (rw size q))
+
+        by-found : (highest found ≡ 0) ⊎ ((x : ℕ) × (x < length found) × (highest found ≡ getD found x 0)) → highest found ≤ depth n ρs
+        by-found (inl e) = omega arith
+        by-found (inr (x, p, e)) = rw e (by-place x (lt-or-le x n))
+
+        by-given : (depth n ρs ≡ 0) ⊎ ((x : ℕ) × (x < length (levels n ρs)) × (depth n ρs ≡ getD (levels n ρs) x 0)) → depth n ρs ≤ highest found
+        by-given (inl e) = omega arith
+        by-given (inr (x, p, e)) =
+            let q : x < n = rw levels-length at p in
+            rw (e, given x q, ← level-found x q) (highest-at found x (omega (arith, l .size)))

@@ -16,13 +16,6 @@ use Rattle.order.specs.Closure.{reaches}
 use Rattle.name_sets.specs.Mask.{has, Holds}
 use Rattle.name_sets.specs.MaskLaws.{has-zero, has-or, has-single}
 
-pub has-shift : (m y : ℕ) → eqb (bitAnd (m / 2 ^ y) 1) 1 ≡ has m y
-unfolding has
-has-shift m y = ap (λ (k : ℕ). eqb k 1) (and-mask (m / 2 ^ y) 1)
-
-pub single-shift : (x : ℕ) → x < 64 → 1 * 2 ^ x % 2 ^ 64 ≡ 2 ^ x
-single-shift x h = shl-exact {a = 1} 1 x 64 (lit< tt) (omega arith) ∙ one-mul (2 ^ x)
-
 regroup : (a b c d : Bool) → (a || ((b || c) || d)) ≡ (((a || b) || c) || d)
 regroup a b c d = sym (or-assoc a (b || c) d) ∙ ap (λ (t : Bool). t || d) (sym (or-assoc a b c))
 

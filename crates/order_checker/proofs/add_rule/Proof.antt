@@ -63,7 +63,7 @@ add-rule-spec =
     reached-requires
     (λ c κs. search needs)
     (λ c. search needs)
-    (λ c κs. over-small c)
+    (λ c κs. search needs)
     (λ c. search needs)
     returns-2
     (λ c. search needs)

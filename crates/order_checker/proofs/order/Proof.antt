@@ -1,4 +1,4 @@
--- `order` meets its contract: `read` settles causes 1 to 7, `gather` cause 8, and the counted masks are levels.
+-- `order` meets its contract: `read` settles causes 1 to 7, `gather` cause 8, and the masks that it leaves give the levels.
 use mathlib.Core.Path.{_≡_, sym, ap, _∙_}
 use Prim.Native.Nat.{ℕ, _≤_}
 use borrow.Author.Needs.{needs}
@@ -41,13 +41,12 @@ returns-2 c = order-refused (c .before .before .before .gather .ensures .0) (ap 
 array-share-prefix-masks : tie.Need-array-share-prefix-masks
 array-share-prefix-masks c = rw (length-front {A = ℕ} (replicate 64 0) _ _ (c .before .before .before .gather .kept .1 .1 .0)) (few (c .before .before .before .before .before))
 
-counted-requires : tie.Need-counted-requires
-counted-requires c κs = rw (length-take-le _ _ (array-share-prefix-masks (c .before))) (few (c .before .before .before .before .before .before))
-
 returns-3 : tie.Need-returns-3
 returns-3 c =
-    let at-gather = c .before .before .before .before .before in
-    order-passed (at-gather .gather .ensures .0) (ap says (c .before .before .enum-told2 .given .1)) _ (at-gather .gather .ensures .1) (c .counted .ensures .0) (rw (take-at _ _ _ (at-gather .gather .kept .1 .1 .0 ∙ as-many (c .before .before .before .before .before .before .before))) at (c .counted .ensures .1))
+    let at-gather = c .before .before .before .before .before .before in
+    let at-header = at-gather .before .before in
+    let size = at-gather .gather .kept .1 .1 .0 ∙ as-many at-header in
+    order-passed (at-gather .gather .ensures .0) (ap says (c .before .before .before .enum-told2 .given .1)) (sym (ok-header at-header)) _ size (at-gather .gather .ensures .1) (rw (take-at _ _ _ size) at (c .before .levels-of .ensures))
 
 pub order-spec : {M : Type 1} → statement M
 order-spec =
@@ -65,5 +64,5 @@ order-spec =
     returns-2
     array-share-prefix-masks
     (λ c. sym (length-take-le _ _ (array-share-prefix-masks (c .before))))
-    counted-requires
+    (λ c κs. search needs)
     returns-3)

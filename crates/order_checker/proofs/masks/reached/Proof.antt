@@ -1,8 +1,10 @@
 -- `reached` meets its contract. The invariant: what the roles reach is in the mask, or is what the roles left reach.
+use mathlib.Core.Path.{_∙_}
 use Prim.Native.Nat.{_≤_, _<_, _-_}
 use native.Mathlib.Omega.{arith}
 use borrow.Author.Needs.{needs}
 use lib.ListN.{length}
+use Rattle.name_sets.specs.MemberLaws.{only-named}
 use Rattle.order_masks.specs.ReachLaws.{Reaching, reaching-start, reaching-next, reaching-end}
 use Rattle.roles.specs.Role.{name}
 use Rattle.order_checker.proofs.masks.reached.Statement.{statement}
@@ -23,7 +25,7 @@ name-small : (c : tie.After-name Inv-loop μ-loop) → c .name .result < 64
 name-small c = omega (arith, name-masked c, c .before .before .before .before .before .before .pre .1)
 
 loop-again : tie.Need-loop-again Inv-loop μ-loop
-loop-again c = (omega arith, reaching-next (c .before .before .before .before .loop-test .taken) (c .before .before .name .ensures) (name-small (c .before .before)) (c .before .single .ensures) (c .before .before .before .before .before .loop .inv .1))
+loop-again c = (omega arith, reaching-next (c .before .before .before .before .loop-test .taken) (c .before .before .name .ensures) (name-small (c .before .before)) (c .before .single .ensures ∙ only-named _ (name-small (c .before .before))) (c .before .before .before .before .before .loop .inv .1))
 
 returns : tie.Need-returns Inv-loop μ-loop
 returns c = reaching-end (c .loop-test .left) (c .before .loop .inv .1)
@@ -38,7 +40,7 @@ reached-spec =
     (λ c. search needs)
     (λ c κs. search needs)
     (λ c. omega (arith, name-small c))
-    (λ c κs. name-small c)
+    (λ c κs. search needs)
     (λ c. omega (arith, name-small (c .before)))
     (λ c. name-masked (c .before .before))
     (λ c. search needs)
