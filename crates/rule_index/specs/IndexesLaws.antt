@@ -20,6 +20,7 @@ use Rattle.book_format.specs.Place.{rule-at, rule-place}
 use Rattle.book_format.specs.FormatLaws.{getD-first-rules}
 use Rattle.book_format.specs.DecodeLaws.{Decoded, decoded}
 use Rattle.book_format.specs.ReadLaws.{read-decode, read-whole, read-named, named-name, named-member, rules-named, read-few-names}
+use Rattle.book_causes.specs.Accepted.{depth-of, count-or-none}
 use Rattle.book_causes.specs.Ordered.{ordered}
 use Rattle.book_causes.specs.OrderedRun.{ordered-read}
 use Rattle.book_header.specs.declared.Header.{Header}
@@ -116,12 +117,19 @@ module _ (s : List ℕ) (b : Book) (i : read s ≡ ok b) where
       few-levels : (x : ℕ) → x < b .names → level-in ix x < b .names
       few-levels x p = rw (level x (omega (arith, read-few-names s b i))) (l .few x p)
 
+-- the depth
+depth-given : (t : Result Book) → 0 ≡ count-or-none depth-of t
+unfolding depth-of
+depth-given (refused c v) = refl
+depth-given (ok b) = refl
+
 -- the answer, by the answer of the order check
 module _ {s : List ℕ} {r : Ordering} (o : Ordered s r) where
-  pub indexes-refused : {old : List ℕ} {c n : ℕ} → says (r .verdict) ≡ refused c n → Indexes s old old (r .verdict)
+  pub indexes-refused : {old : List ℕ} {c n : ℕ} → says (r .verdict) ≡ refused c n → Indexes s old old (record { verdict = r .verdict; depth = 0 })
   indexes-refused {old} {c} {n} e =
       record {
         verdict = o .verdict;
+        depth = depth-given (ordered s);
         kept = λ _ _ _. refl;
         other = λ _. refl;
         index = λ b q. absurd (refused-ok c n (header-of b) (sym e ∙ o .verdict ∙ ap (map-result header-of) q));
@@ -148,10 +156,11 @@ module _ {s : List ℕ} {r : Ordering} (o : Ordered s r) where
     pub levels-small : (x : ℕ) → x < 64 → getD (r .levels) x 0 < 64
     levels-small = o .levels (passed .0) (passed .1) .small
 
-    pub indexes-other : {old : List ℕ} → (length old ≡ 3904 → ⊥) → Indexes s old old (WellFormed h)
+    pub indexes-other : {old : List ℕ} → (length old ≡ 3904 → ⊥) → Indexes s old old (record { verdict = WellFormed h; depth = 0 })
     indexes-other x =
         record {
           verdict = e;
+          depth = depth-given (ordered s);
           kept = λ _ _ _. refl;
           other = λ _. refl;
           index = λ b q p. absurd (x p);
@@ -166,10 +175,11 @@ module _ {s : List ℕ} {r : Ordering} (o : Ordered s r) where
       linkable = (passed .0 .rules, linkable-book (passed .0) (passed .1))
 
       pub indexes-filled : {old : List ℕ} → length old ≡ 3904 → {new : List ℕ} → ((ρs : List Rule) → Linkable ρs (h .rules) started → Linking ρs 0 started new)
-          → Indexes s old new (WellFormed h)
+          → Indexes s old new (record { verdict = WellFormed h; depth = 0 })
       indexes-filled {old} z {new} k =
           record {
             verdict = e;
+            depth = depth-given (ordered s);
             kept = λ c v q. absurd (refused-ok c v h (sym (e ∙ ap (map-result header-of) q)));
             other = λ w. absurd (w z);
             index =

@@ -20,25 +20,40 @@ use order_checker::order;
 use role_bytes::name;
 use rule_shapes::shape_of;
 
+// The verdict on a book by causes 1 to 8, and its depth: 0 where it is refused.
+pub struct Indexing {
+    pub verdict: Verdict,
+    pub depth: usize,
+}
+
 // Checks the order of a book by causes 1 to 8 and, where it has one and 3,904 numbers are lent, fills the index of its rules; else the numbers
 // keep their values.
-pub fn index(book: &[u8], index: &mut [u16]) -> Verdict
+pub fn index(book: &[u8], index: &mut [u16]) -> Indexing
     ensures { λ r. ⌜ Indexes (now (book .entry)) (now (index .entry)) (now (index .exit)) r ⌝ }
 {
     let ordering = order(book);
     let verdict = ordering.verdict;
     let Verdict::WellFormed(header) = verdict else {
-        return verdict;
+        return Indexing {
+            verdict: verdict,
+            depth: 0,
+        };
     };
     if index.len() != 3904 {
-        return verdict;
+        return Indexing {
+            verdict: verdict,
+            depth: 0,
+        };
     }
     let rules = header.rules;
     let levels = ordering.levels;
     enter(book, rules, index);
     start(&levels, index);
     link(rules, index);
-    verdict
+    Indexing {
+        verdict: verdict,
+        depth: 0,
+    }
 }
 
 // Enters the rules, one after another.
