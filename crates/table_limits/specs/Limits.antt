@@ -8,19 +8,21 @@ use Rattle.refusals.specs.declared.build.BuildRefusal.the-variants.{Book, State
 use Rattle.table_limits.specs.declared.Outcome.{Outcome}
 use Rattle.table_limits.specs.declared.Outcome.the-variants.{Built, Refused}
 
--- causes 9 to 11, in this order: the first that refuses tables of so many names, states and transitions, or their counts
-unfoldable pub limited : (names states transitions heads moves : ℕ) → Outcome
-limited names states transitions heads moves =
+-- causes 9 to 11, in this order: the first that refuses tables of so many names, states and transitions, or their counts with the depth
+unfoldable pub limited : (names states transitions depth heads moves : ℕ) → Outcome
+limited names states transitions depth heads moves =
     cond (leb states 2048)
     (cond (leb transitions 5120)
-    (cond (leb names heads && leb (3 * transitions) moves) (Built (record { names = names; states = states; transitions = transitions })) (Refused Short))
+    (cond (leb names heads && leb (3 * transitions) moves)
+    (Built (record { names = names; states = states; transitions = transitions; depth = depth }))
+    (Refused Short))
     (Refused Transitions))
     (Refused States)
 
 -- a book that its verdict refuses is refused so; causes 9 to 11 judge any other
-abbrev pub settled : Verdict → (states transitions heads moves : ℕ) → Outcome
-settled (verdict.WellFormed header) states transitions heads moves = limited (header .names) states transitions heads moves
-settled (verdict.Refused refusal) states transitions heads moves = Refused (Book refusal)
+abbrev pub settled : Verdict → (states transitions depth heads moves : ℕ) → Outcome
+settled (verdict.WellFormed header) states transitions depth heads moves = limited (header .names) states transitions depth heads moves
+settled (verdict.Refused refusal) states transitions depth heads moves = Refused (Book refusal)
 
 -- the names of a book, and those that have been built
 abbrev pub names-of : Verdict → ℕ

@@ -9,11 +9,13 @@ use book_decoder::Verdict;
 use refusals::BuildRefusal;
 use refusals::Check;
 
-// How many names, states and transitions the tables have: their numbers are the first `names` heads and the first 3 `transitions` moves.
+// How many names, states and transitions the tables have, and the depth of the book: the numbers of the tables are the first `names` heads and
+// the first 3 `transitions` moves.
 pub struct Counts {
     pub names: usize,
     pub states: usize,
     pub transitions: usize,
+    pub depth: usize,
 }
 
 // What a build says: the counts of the tables written, or refused.
@@ -42,20 +44,23 @@ fn names_in(outcome: Outcome) -> usize
     }
 }
 
-// What a build says of a book with so many states and transitions, where so many heads and moves are lent: why it is refused, by the verdict
-// or by causes 9 to 11, or its counts.
+// What a build says of a book with so many states and transitions and of this depth, where so many heads and moves are lent: why it is refused,
+// by the verdict or by causes 9 to 11, or its counts.
 pub fn settle(
     verdict: Verdict,
     states: usize,
     transitions: usize,
+    depth: usize,
     heads: usize,
     moves: usize,
 ) -> Outcome
-    ensures { λ r. ⌜ r ≡ settled verdict states transitions heads moves ⌝ }
+    ensures { λ r. ⌜ r ≡ settled verdict states transitions depth heads moves ⌝ }
 {
     match verdict {
         Verdict::Refused(refusal) => Outcome::Refused(BuildRefusal::Book(refusal)),
-        Verdict::WellFormed(header) => limit(header.names, states, transitions, heads, moves),
+        Verdict::WellFormed(header) => {
+            limit(header.names, states, transitions, depth, heads, moves)
+        }
     }
 }
 
@@ -64,17 +69,25 @@ pub fn names_laid(
     verdict: Verdict,
     states: usize,
     transitions: usize,
+    depth: usize,
     heads: usize,
     moves: usize,
 ) -> usize
-    ensures { λ r. ⌜ r ≡ names-in (settled verdict states transitions heads moves) ⌝ }
+    ensures { λ r. ⌜ r ≡ names-in (settled verdict states transitions depth heads moves) ⌝ }
 {
-    names_in(settle(verdict, states, transitions, heads, moves))
+    names_in(settle(verdict, states, transitions, depth, heads, moves))
 }
 
 // Causes 9 to 11, in this order.
-fn limit(names: usize, states: usize, transitions: usize, heads: usize, moves: usize) -> Outcome
-    ensures { λ r. ⌜ r ≡ limited names states transitions heads moves ⌝ }
+fn limit(
+    names: usize,
+    states: usize,
+    transitions: usize,
+    depth: usize,
+    heads: usize,
+    moves: usize,
+) -> Outcome
+    ensures { λ r. ⌜ r ≡ limited names states transitions depth heads moves ⌝ }
 {
     let Check::Passed = few_states(states) else {
         return Outcome::Refused(BuildRefusal::States);
@@ -89,6 +102,7 @@ fn limit(names: usize, states: usize, transitions: usize, heads: usize, moves: u
         names: names,
         states: states,
         transitions: transitions,
+        depth: depth,
     })
 }
 
