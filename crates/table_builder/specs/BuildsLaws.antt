@@ -9,7 +9,7 @@ use Rattle.base.specs.Result.{Result, map-result}
 use Rattle.base.specs.ResultLaws.{ok-injective, refused-ok}
 use Rattle.base.specs.Result.Result.{refused, ok}
 use Rattle.book_format.specs.ReadLaws.{read-few-names}
-use Rattle.book_causes.specs.Accepted.{built}
+use Rattle.book_causes.specs.Accepted.{depth-of, built, count-or-none}
 use Rattle.book_causes.specs.Ordered as Ordered
 use Rattle.book_causes.specs.OrderedRun.{ordered-read}
 use Rattle.book_causes.specs.AcceptedLaws.{accepted-refused, accepted-passed, built-refused, built-accepted}
@@ -20,6 +20,7 @@ use Rattle.book_decoder.specs.declared.verdict.Verdict.{Verdict}
 use Rattle.book_decoder.specs.declared.verdict.Verdict.the-variants.{WellFormed, Refused}
 use Rattle.refusals.specs.BookRefusals.{book-cause, book-value}
 use Rattle.book_decoder.specs.Verdict.{header-of, says}
+use Rattle.rule_index.specs.declared.Indexing.{Indexing}
 use Rattle.rule_index.specs.RuleIndex.{Indexed}
 use Rattle.rule_index.specs.Indexes.{Indexes}
 use Rattle.table_limits.specs.Limits.{settled, names-of, names-in}
@@ -31,10 +32,14 @@ use Rattle.table_limits.specs.declared.Counts.{Counts}
 use Rattle.table_limits.specs.declared.Outcome.{Outcome}
 use Rattle.table_limits.specs.declared.Outcome.the-variants as outcome
 
-pub checked : {s old ix : List ℕ} {v : Verdict} → length old ≡ 3904 → Indexes s old ix v → Checked s ix v
-checked l i = (_, l, i)
+-- what is said of a book that was indexed and counted
+abbrev said : Indexing → Place → (heads moves : ℕ) → Outcome
+said i end heads moves = settled (i .verdict) (end .state) (end .count) (i .depth) heads moves
 
-module _ {s ix : List ℕ} {v : Verdict} (a : Checked s ix v) where
+pub checked : {s old ix : List ℕ} {i : Indexing} → length old ≡ 3904 → Indexes s old ix i → Checked s ix i
+checked l a = (_, l, a)
+
+module _ {s ix : List ℕ} {i : Indexing} (a : Checked s ix i) where
   -- a book that is in order
   prepare : (b : Book) → Ordered.ordered s ≡ ok b → (names : ℕ) → names ≡ b .names → Prepared s ix names
   prepare b o names e =
@@ -49,7 +54,7 @@ module _ {s ix : List ℕ} {v : Verdict} (a : Checked s ix v) where
       }
 
   -- by its header
-  prepared : (h : Header) → v ≡ WellFormed h → Prepared s ix (h .names)
+  prepared : (h : Header) → i .verdict ≡ WellFormed h → Prepared s ix (h .names)
   prepared h e = by-result (Ordered.ordered s) refl (sym (ap says e) ∙ a .2 .verdict)
     where
       by-result : (r : Result Book) → Ordered.ordered s ≡ r → ok h ≡ map-result header-of (Ordered.ordered s) → Prepared s ix (h .names)
@@ -57,7 +62,7 @@ module _ {s ix : List ℕ} {v : Verdict} (a : Checked s ix v) where
       by-result (ok b) f g = prepare b f (h .names) (ap (λ (x : Header). x .names) (ok-injective h (header-of b) (g ∙ ap (map-result header-of) f)))
 
   -- a book that is refused
-  refused-answers : (heads moves : ℕ) (r : BookRefusal) → v ≡ Refused r → Answers s heads moves (outcome.Refused (BuildRefusal.Book r))
+  refused-answers : (heads moves : ℕ) (r : BookRefusal) → i .verdict ≡ Refused r → Answers s heads moves (outcome.Refused (BuildRefusal.Book r))
   refused-answers heads moves r e =
       rw (built-refused s heads moves (book-cause r) (book-value r)
       (accepted-refused s (book-cause r) (book-value r) (by-result (Ordered.ordered s) refl (sym (ap says e) ∙ a .2 .verdict)))) refl
@@ -70,21 +75,23 @@ module _ {s ix : List ℕ} {v : Verdict} (a : Checked s ix v) where
       by-result (ok b) f g = absurd (refused-ok (book-cause r) (book-value r) (header-of b) (g ∙ ap (map-result header-of) f))
 
   -- what counting asks for, and what is said after it
-  module _ {names : ℕ} (e : names ≡ names-of v) where
+  module _ {names : ℕ} (e : names ≡ names-of (i .verdict)) where
     pub count-ready : (0 < names → (ρs : List Rule) × Indexed ρs ix) × (names ≤ 64)
-    count-ready = by-verdict v refl e
+    count-ready = by-verdict (i .verdict) refl e
       where
-        by-verdict : (w : Verdict) → v ≡ w → names ≡ names-of w → (0 < names → (ρs : List Rule) × Indexed ρs ix) × (names ≤ 64)
+        by-verdict : (w : Verdict) → i .verdict ≡ w → names ≡ names-of w → (0 < names → (ρs : List Rule) × Indexed ρs ix) × (names ≤ 64)
         by-verdict (WellFormed h) f g = let p = prepared h f in (λ _. (p .book .rules, p .index), rw g (p .few))
         by-verdict (Refused r) f g = (λ l. absurd (let d : ⊥ = omega arith in d), omega arith)
 
     answers : {end : Place} → ((ρs : List Rule) → Indexed ρs ix → (fuel : ℕ) → Enough ix names fuel → Counted ρs fuel names end) → (heads moves : ℕ)
-        → Answers s heads moves (settled v (end .state) (end .count) heads moves)
-    answers {end} c heads moves = by-verdict v refl e
+        → Answers s heads moves (said i end heads moves)
+    answers {end} c heads moves = by-verdict (i .verdict) refl e
       where
-        by-verdict : (w : Verdict) → v ≡ w → names ≡ names-of w → Answers s heads moves (settled w (end .state) (end .count) heads moves)
+        by-verdict : (w : Verdict) → i .verdict ≡ w → names ≡ names-of w → Answers s heads moves (settled w (end .state) (end .count) (i .depth) heads moves)
         by-verdict (WellFormed h) g n =
-            let p = prepared h g in judged s ix (h .names) p end (c′ (p .book .rules) (p .index) (p .book .names) (p .levels)) heads moves
+            let p = prepared h g in
+            let deep = a .2 .depth ∙ ap (count-or-none depth-of) (p .ordered) in
+            judged s ix (h .names) p deep end (c′ (p .book .rules) (p .index) (p .book .names) (p .levels)) heads moves
           where
             c′ : (ρs : List Rule) → Indexed ρs ix → (fuel : ℕ) → Enough ix (h .names) fuel → Counted ρs fuel (h .names) end
             c′ = rw n at c
@@ -112,11 +119,11 @@ module _ {s ix : List ℕ} {v : Verdict} (a : Checked s ix v) where
   builds {h} {m} (outcome.Refused x) e f r = rw (r .none f .0, r .none f .1) (builds-refused s h m x e)
 
   -- what laying asks for, and what a build has done, by the counts
-  module _ {names : ℕ} (e : names ≡ names-of v) {end : Place} (c : (ρs : List Rule) → Indexed ρs ix → (fuel : ℕ) → Enough ix names fuel → Counted ρs fuel names end) where
-    pub laying-ready : (heads moves : ℕ) {n : ℕ} → n ≡ names-in (settled v (end .state) (end .count) heads moves)
+  module _ {names : ℕ} (e : names ≡ names-of (i .verdict)) {end : Place} (c : (ρs : List Rule) → Indexed ρs ix → (fuel : ℕ) → Enough ix names fuel → Counted ρs fuel names end) where
+    pub laying-ready : (heads moves : ℕ) {n : ℕ} → n ≡ names-in (said i end heads moves)
         → (0 < n → (ρs : List Rule) × Indexed ρs ix) × (n ≤ 64)
-    laying-ready heads moves f = roots-ready heads moves (settled v (end .state) (end .count) heads moves) (answers e c heads moves) f
+    laying-ready heads moves f = roots-ready heads moves (said i end heads moves) (answers e c heads moves) f
 
-    pub builds-settled : {h m : List ℕ} {x : Outcome} → x ≡ settled v (end .state) (end .count) (length h) (length m) → {q : Place} {h′ m′ : List ℕ} {n : ℕ}
-        → n ≡ names-in (settled v (end .state) (end .count) (length h) (length m)) → Rooted ix n q h h′ m m′ → Builds s h m h′ m′ x
-    builds-settled {h} {m} k f r = rw k (builds (settled v (end .state) (end .count) (length h) (length m)) (answers e c (length h) (length m)) f r)
+    pub builds-settled : {h m : List ℕ} {x : Outcome} → x ≡ said i end (length h) (length m) → {q : Place} {h′ m′ : List ℕ} {n : ℕ}
+        → n ≡ names-in (said i end (length h) (length m)) → Rooted ix n q h h′ m m′ → Builds s h m h′ m′ x
+    builds-settled {h} {m} k f r = rw k (builds (said i end (length h) (length m)) (answers e c (length h) (length m)) f r)

@@ -14,7 +14,7 @@ use Rattle.roles.specs.Rule.{Book}
 use Rattle.base.specs.Result.{Result, map-result}
 use Rattle.base.specs.Result.Result.{refused, ok}
 use Rattle.base.specs.ResultLaws.{refused-ok, ok-injective}
-use Rattle.book_causes.specs.Accepted.{states-of, count-of, heads-of, moves-of, accepted, built}
+use Rattle.book_causes.specs.Accepted.{states-of, count-of, depth-of, heads-of, moves-of, accepted, built}
 use Rattle.book_causes.specs.AcceptedLaws.{accepted-states, accepted-count, accepted-ok, accepted-passed, built-refused, built-short, accepted-built, built-accepted}
 use Rattle.book_causes.specs.AcceptedLaws.{enough-heads, enough-moves}
 use Rattle.rule_index.specs.RuleIndex.{level-in}
@@ -43,7 +43,10 @@ module _ (s ix : List ℕ) (names : ℕ) (p : Prepared s ix names) where
   few h = few-transitions (p .book .rules) (level-in ix) (p .index .fits) (p .book .names) (p .book .names) h
 
   -- what was counted
-  module _ (r : Place) (w : Counted (p .book .rules) (p .book .names) names r) (heads moves : ℕ) where
+  module _ {depth : ℕ} (deep : depth ≡ depth-of (p .book)) (r : Place) (w : Counted (p .book .rules) (p .book .names) names r) (heads moves : ℕ) where
+    abbrev counts : Counts
+    counts = record { names = names; states = r .state; transitions = r .count; depth = depth }
+
     own : Counted (p .book .rules) (p .book .names) (p .book .names) r
     own = subst (λ (n : ℕ). Counted (p .book .rules) (p .book .names) n r) (p .same) w
 
@@ -79,29 +82,29 @@ module _ (s ix : List ℕ) (names : ℕ) (p : Prepared s ix names) where
         judged-short : (leb names heads && leb (3 * r .count) moves) ≡ false → Answers s heads moves (Refused Short)
         judged-short h = rw (built-short s heads moves (p .book) accepts (rw (← same-count, ← p .same) h)) refl
 
-        judged-built : (leb names heads && leb (3 * r .count) moves) ≡ true
-            → Answers s heads moves (Built (record { names = names; states = r .state; transitions = r .count }))
+        judged-built : (leb names heads && leb (3 * r .count) moves) ≡ true → Answers s heads moves (Built counts)
         judged-built h =
             let enough = leb-true names heads (and-left (leb names heads) (leb (3 * r .count) moves) h) in
             let room = leb-true (3 * r .count) moves (and-right (leb names heads) (leb (3 * r .count) moves) h) in
-            rw (accepted-built s heads moves (p .book) accepts (rw (← p .same) enough) (rw (← same-count) room), p .same, own .within whole, same-count) refl
+            let built = accepted-built s heads moves (p .book) accepts (rw (← p .same) enough) (rw (← same-count) room) in
+            rw (built, p .same, own .within whole, same-count, deep) refl
 
-    pub judged : Answers s heads moves (limited names (r .state) (r .count) heads moves)
+    pub judged : Answers s heads moves (limited names (r .state) (r .count) depth heads moves)
     unfolding limited
     judged = by-states (leb (r .state) 2048) refl
       where
         by-lent : (small : r .state ≤ 2048) → r .count ≤ 5120 → (t : Bool) → (leb names heads && leb (3 * r .count) moves) ≡ t
-            → Answers s heads moves (cond t (Built (record { names = names; states = r .state; transitions = r .count })) (Refused Short))
+            → Answers s heads moves (cond t (Built counts) (Refused Short))
         by-lent small short true h = judged-built small short h
         by-lent small short false h = judged-short small short h
 
         by-count : r .state ≤ 2048 → (t : Bool) → leb (r .count) 5120 ≡ t
-            → Answers s heads moves (cond t (cond (leb names heads && leb (3 * r .count) moves) (Built (record { names = names; states = r .state; transitions = r .count })) (Refused Short)) (Refused Transitions))
+            → Answers s heads moves (cond t (cond (leb names heads && leb (3 * r .count) moves) (Built counts) (Refused Short)) (Refused Transitions))
         by-count small true h = by-lent small (leb-true (r .count) 5120 h) (leb names heads && leb (3 * r .count) moves) refl
         by-count small false h = judged-transitions small (leb-false (r .count) 5120 h)
 
         by-states : (t : Bool) → leb (r .state) 2048 ≡ t
-            → Answers s heads moves (cond t (cond (leb (r .count) 5120) (cond (leb names heads && leb (3 * r .count) moves) (Built (record { names = names; states = r .state; transitions = r .count })) (Refused Short)) (Refused Transitions)) (Refused States))
+            → Answers s heads moves (cond t (cond (leb (r .count) 5120) (cond (leb names heads && leb (3 * r .count) moves) (Built counts) (Refused Short)) (Refused Transitions)) (Refused States))
         by-states true h = by-count (leb-true (r .state) 2048 h) (leb (r .count) 5120) refl
         by-states false h = judged-states (leb-false (r .state) 2048 h)
 

@@ -18,13 +18,15 @@ pub fn build(book: &[u8], heads: &mut [u16], moves: &mut [u16]) -> Outcome
     ensures { λ r. ⌜ Builds (now (book .entry)) (now (heads .entry)) (now (moves .entry)) (now (heads .exit)) (now (moves .exit)) r ⌝ }
 {
     let mut index = [0u16; 3904];
-    let verdict = rule_index::index(book, &mut index);
+    let indexing = rule_index::index(book, &mut index);
+    let verdict = indexing.verdict;
+    let depth = indexing.depth;
     let end = count(&index, names_of(verdict));
     let states = end.state;
     let transitions = end.count;
     let lent_heads = heads.len();
     let lent_moves = moves.len();
-    let names = names_laid(verdict, states, transitions, lent_heads, lent_moves);
+    let names = names_laid(verdict, states, transitions, depth, lent_heads, lent_moves);
     roots(&index, names, heads, moves);
-    settle(verdict, states, transitions, lent_heads, lent_moves)
+    settle(verdict, states, transitions, depth, lent_heads, lent_moves)
 }
