@@ -8,70 +8,76 @@ use Rattle.roles.specs.Role.{Chain}
 use Rattle.roles.specs.Rule.{Book}
 use Rattle.base.specs.Result.{Result, map-result}
 use Rattle.base.specs.Result.Result.{refused, ok}
-use Rattle.book_causes.specs.Accepted.{states-of, count-of, heads-of, moves-of, built, written}
+use Rattle.book_causes.specs.Accepted.{states-of, count-of, depth-of, heads-of, moves-of, built, written}
 use Rattle.query_causes.specs.Query.{Answered}
 use Rattle.query_correctness.specs.Reply.{Replied, posed}
 use Rattle.book_header.specs.declared.Header.{Header}
 use Rattle.table_limits.specs.declared.Counts.{Counts}
 
--- two numbers told
-pub record Pair : Type 0 where
+-- three numbers told
+pub record Numbers : Type 0 where
   pub one : ℕ
   pub two : ℕ
+  pub three : ℕ
 
--- a result as three numbers: the cause or 0, and what is told
-abbrev pub cause-told : Result Pair → ℕ
+-- a result as four numbers: the cause or 0, and what is told
+abbrev pub cause-told : Result Numbers → ℕ
 cause-told (refused cause value) = cause
-cause-told (ok p) = 0
+cause-told (ok n) = 0
 
-abbrev pub first-told : Result Pair → ℕ
+abbrev pub first-told : Result Numbers → ℕ
 first-told (refused cause value) = value
-first-told (ok p) = p .one
+first-told (ok n) = n .one
 
-abbrev pub second-told : Result Pair → ℕ
+abbrev pub second-told : Result Numbers → ℕ
 second-told (refused cause value) = 0
-second-told (ok p) = p .two
+second-told (ok n) = n .two
 
-pub record Tells (r : Result Pair) (cause first second : ℕ) : Type 0 where
+abbrev pub third-told : Result Numbers → ℕ
+third-told (refused cause value) = 0
+third-told (ok n) = n .three
+
+pub record Tells (r : Result Numbers) (cause first second third : ℕ) : Type 0 where
   pub cause-is : cause ≡ cause-told r
   pub first-is : first ≡ first-told r
   pub second-is : second ≡ second-told r
+  pub third-is : third ≡ third-told r
 
 -- how many names and rules
-abbrev pub header-counts : Header → Pair
-header-counts h = record { one = h .names; two = h .rules }
+abbrev pub header-counts : Header → Numbers
+header-counts h = record { one = h .names; two = h .rules; three = 0 }
 
-abbrev pub book-counts : Book → Pair
-book-counts b = record { one = b .names; two = length (b .rules) }
+abbrev pub book-counts : Book → Numbers
+book-counts b = record { one = b .names; two = length (b .rules); three = 0 }
 
--- how many states and transitions
-abbrev pub built-counts : Counts → Pair
-built-counts k = record { one = k .states; two = k .transitions }
+-- how many states and transitions, and the depth
+abbrev pub built-counts : Counts → Numbers
+built-counts k = record { one = k .states; two = k .transitions; three = k .depth }
 
-abbrev pub table-counts : Book → Pair
-table-counts b = record { one = states-of b; two = count-of b }
+abbrev pub table-counts : Book → Numbers
+table-counts b = record { one = states-of b; two = count-of b; three = depth-of b }
 
 -- what a build tells, and the lent tables
-pub record TellsBuild (s h m h′ m′ : List ℕ) (cause first second : ℕ) : Type 0 where
-  pub tells : Tells (map-result table-counts (built s (length h) (length m))) cause first second
+pub record TellsBuild (s h m h′ m′ : List ℕ) (cause first second third : ℕ) : Type 0 where
+  pub tells : Tells (map-result table-counts (built s (length h) (length m))) cause first second third
   pub heads : h′ ≡ written (built s (length h) (length m)) heads-of h
   pub moves : m′ ≡ written (built s (length h) (length m)) moves-of m
 
 -- yes is 1, no is 0
-abbrev pub bit : Bool → Pair
-bit true = record { one = 1; two = 0 }
-bit false = record { one = 0; two = 0 }
+abbrev pub bit : Bool → Numbers
+bit true = record { one = 1; two = 0; three = 0 }
+bit false = record { one = 0; two = 0; three = 0 }
 
 -- the answer of tables
 pub record TellsAnswer (h m : List ℕ) (r : ℕ) (w : Chain) (cause answer : ℕ) : Type 0 where
   pub said : Result Bool
   pub answered : Answered h m r w said
-  pub tells : Tells (map-result bit said) cause answer 0
+  pub tells : Tells (map-result bit said) cause answer 0 0
 
 -- the answer from a book's bytes, and the lent tables: where the book or the question is refused, what they held
 pub record TellsDerived (s h m : List ℕ) (r : ℕ) (w : Chain) (h′ m′ : List ℕ) (cause answer : ℕ) : Type 0 where
   pub said : Result Bool
   pub replied : Replied s (length h) (length m) r w said
-  pub tells : Tells (map-result bit said) cause answer 0
+  pub tells : Tells (map-result bit said) cause answer 0 0
   pub heads : h′ ≡ written (posed s (length h) (length m) r w) heads-of h
   pub moves : m′ ≡ written (posed s (length h) (length m) r w) moves-of m

@@ -16,17 +16,18 @@ use query_deriver::Reply;
 use refusals::BuildRefusal;
 use table_builder::Outcome;
 
-// What a call tells: the number of the cause, or 0, and two numbers.
+// What a call tells: the number of the cause, or 0, and three numbers.
 struct Told {
     cause: u64,
     first: u64,
     second: u64,
+    third: u64,
 }
 
 // Causes 1 to 7. Passed: how many names and how many rules the book has. Refused: the value beside the cause, and 0.
 #[no_mangle]
 pub extern "C" fn rabbitsteel_read(book: &[u8], first: &mut u64, second: &mut u64) -> u64
-    ensures { λ r. ⌜ Tells (map-result book-counts (read (now (book .entry)))) r (now (first .exit)) (now (second .exit)) ⌝ }
+    ensures { λ r. ⌜ Tells (map-result book-counts (read (now (book .entry)))) r (now (first .exit)) (now (second .exit)) 0 ⌝ }
 {
     let told = tell_verdict(book_reader::read(book));
     *first = told.first;
@@ -37,7 +38,7 @@ pub extern "C" fn rabbitsteel_read(book: &[u8], first: &mut u64, second: &mut u6
 // Causes 1 to 8. Passed: how many names and how many rules the book has. Refused: the value beside the cause, and 0.
 #[no_mangle]
 pub extern "C" fn rabbitsteel_order(book: &[u8], first: &mut u64, second: &mut u64) -> u64
-    ensures { λ r. ⌜ Tells (map-result book-counts (ordered (now (book .entry)))) r (now (first .exit)) (now (second .exit)) ⌝ }
+    ensures { λ r. ⌜ Tells (map-result book-counts (ordered (now (book .entry)))) r (now (first .exit)) (now (second .exit)) 0 ⌝ }
 {
     let ordering = order_checker::order(book);
     let verdict = ordering.verdict;
@@ -48,13 +49,14 @@ pub extern "C" fn rabbitsteel_order(book: &[u8], first: &mut u64, second: &mut u
 }
 
 fn tell_verdict(verdict: Verdict) -> Told
-    ensures { λ r. ⌜ Tells (map-result header-counts (says verdict)) (r .cause) (r .first) (r .second) ⌝ }
+    ensures { λ r. ⌜ Tells (map-result header-counts (says verdict)) (r .cause) (r .first) (r .second) (r .third) ⌝ }
 {
     match verdict {
         Verdict::WellFormed(header) => Told {
             cause: 0,
             first: header.names as u64,
             second: header.rules as u64,
+            third: 0,
         },
         Verdict::Refused(refusal) => tell_refusal(BuildRefusal::Book(refusal)),
     }
@@ -62,17 +64,18 @@ fn tell_verdict(verdict: Verdict) -> Told
 
 // The cause of a refusal, and the value beside it.
 fn tell_refusal(refusal: BuildRefusal) -> Told
-    ensures { λ r. ⌜ Tells (refused (build-cause refusal) (build-value refusal)) (r .cause) (r .first) (r .second) ⌝ }
+    ensures { λ r. ⌜ Tells (refused (build-cause refusal) (build-value refusal)) (r .cause) (r .first) (r .second) (r .third) ⌝ }
 {
     Told {
         cause: refusals::build_cause(refusal) as u64,
         first: refusals::build_value(refusal) as u64,
         second: 0,
+        third: 0,
     }
 }
 
-// Causes 1 to 11, and the tables. Built: how many states and how many transitions they have. Refused: the value beside the cause, and 0; heads
-// and moves are left as they were.
+// Causes 1 to 11, and the tables. Built: how many states and how many transitions they have, and the depth of the book. Refused: the value beside
+// the cause, 0 and 0; heads and moves are left as they were.
 #[no_mangle]
 pub extern "C" fn rabbitsteel_build(
     book: &[u8],
@@ -80,24 +83,27 @@ pub extern "C" fn rabbitsteel_build(
     moves: &mut [u16],
     first: &mut u64,
     second: &mut u64,
+    third: &mut u64,
 ) -> u64
     ensures { λ r. ⌜ TellsBuild (now (book .entry)) (now (heads .entry)) (now (moves .entry)) (now (heads .exit)) (now (moves .exit)) r
-        (now (first .exit)) (now (second .exit)) ⌝ }
+        (now (first .exit)) (now (second .exit)) (now (third .exit)) ⌝ }
 {
     let told = tell_outcome(table_builder::build(book, heads, moves));
     *first = told.first;
     *second = told.second;
+    *third = told.third;
     told.cause
 }
 
 fn tell_outcome(outcome: Outcome) -> Told
-    ensures { λ r. ⌜ Tells (map-result built-counts (outcome-says outcome)) (r .cause) (r .first) (r .second) ⌝ }
+    ensures { λ r. ⌜ Tells (map-result built-counts (outcome-says outcome)) (r .cause) (r .first) (r .second) (r .third) ⌝ }
 {
     match outcome {
         Outcome::Built(counts) => Told {
             cause: 0,
             first: counts.states as u64,
             second: counts.transitions as u64,
+            third: counts.depth as u64,
         },
         Outcome::Refused(refusal) => tell_refusal(refusal),
     }
@@ -120,23 +126,26 @@ pub extern "C" fn rabbitsteel_ask(
 }
 
 fn tell_answer(answer: Answer) -> Told
-    ensures { λ r. ⌜ Tells (map-result bit (answer-says answer)) (r .cause) (r .first) (r .second) ⌝ }
+    ensures { λ r. ⌜ Tells (map-result bit (answer-says answer)) (r .cause) (r .first) (r .second) (r .third) ⌝ }
 {
     match answer {
         Answer::Yes => Told {
             cause: 0,
             first: 1,
             second: 0,
+            third: 0,
         },
         Answer::No => Told {
             cause: 0,
             first: 0,
             second: 0,
+            third: 0,
         },
         Answer::Refused(refusal) => Told {
             cause: refusals::query_cause(refusal) as u64,
             first: 0,
             second: 0,
+            third: 0,
         },
     }
 }
@@ -161,24 +170,27 @@ pub extern "C" fn rabbitsteel_derived(
 }
 
 fn tell_reply(reply: Reply) -> Told
-    ensures { λ r. ⌜ Tells (map-result bit (reply-says reply)) (r .cause) (r .first) (r .second) ⌝ }
+    ensures { λ r. ⌜ Tells (map-result bit (reply-says reply)) (r .cause) (r .first) (r .second) (r .third) ⌝ }
 {
     match reply {
         Reply::Yes => Told {
             cause: 0,
             first: 1,
             second: 0,
+            third: 0,
         },
         Reply::No => Told {
             cause: 0,
             first: 0,
             second: 0,
+            third: 0,
         },
         Reply::Book(refusal) => tell_refusal(refusal),
         Reply::Question(refusal) => Told {
             cause: refusals::query_cause(refusal) as u64,
             first: 0,
             second: 0,
+            third: 0,
         },
     }
 }
