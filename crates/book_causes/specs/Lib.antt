@@ -4,3 +4,4 @@ pub mod Source
 pub mod Accepted
 pub mod OrderedRun
 pub mod AcceptedLaws
+pub mod LevelsLaws

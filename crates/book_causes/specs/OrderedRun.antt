@@ -9,12 +9,14 @@ use lib.Seq.{take-suc, take-all, drop-cons}
 use Rattle.roles.specs.Rule.{Rule, Book}
 use Rattle.order.specs.Closure.{no-order, with-rule, clashes}
 use Rattle.order.specs.ClosureLaws.{Closed, closed-none, closed-with}
+use Rattle.order.specs.Regular.{Regular}
 use Rattle.base.specs.Result.{Result, and-then, map-result}
 use Rattle.base.specs.Result.Result.{refused, ok}
 use Rattle.base.specs.ResultLaws.{refused-ok, ok-injective, and-then-assoc, demand-rest, map-refused}
 use Rattle.book_format.specs.Format.{decode, distinct-book, read}
 use Rattle.book_format.specs.ReadLaws.{rules-some}
 use Rattle.book_causes.specs.Ordered.{order-from, order-book, ordered, Judged}
+use Rattle.book_causes.specs.Ordered.Judged.{has-order, none}
 use Rattle.book_causes.specs.OrderedLaws.{judged}
 
 -- the first k rules gave an order, and the whole gathering is the one from rule k on
@@ -79,3 +81,11 @@ ordered-read s b h = by-result (read s) (sym (ordered-then s) ∙ h)
 -- what causes 1 to 7 refuse is refused so
 pub ordered-refused : {A : Type 0} (f : Book → A) (s : List ℕ) {c v : ℕ} → refused c v ≡ map-result f (read s) → ordered s ≡ refused c v
 ordered-refused f s h = ordered-then s ∙ rw (map-refused f (read s) h) refl
+
+-- a book that passes has a regular order
+pub ordered-regular : (s : List ℕ) (b : Book) → ordered s ≡ ok b → Regular (b .rules)
+ordered-regular s b h = by-judgement (ordered s) (ordered-judged s b (ordered-read s b h)) h
+  where
+    by-judgement : (r : Result Book) → Judged b r → r ≡ ok b → Regular (b .rules)
+    by-judgement _ (has-order g) e = g
+    by-judgement _ (none k q front missing) e = absurd (refused-ok 8 k b e)

@@ -138,9 +138,12 @@ module _ (n : ℕ) (ρs : List Rule) (named : Named n ρs) where
   forced-low (edge ρ m s i) = let h : s < 2 * n = named ρ m .1 s (inner-left ρ s i) in omega arith
   forced-low (along x y z p q) = forced-low p
 
-  pub forced-high : {y x : ℕ} → Forced ρs y x → x < n
+  pub right-low : (ρ : Rule) → List·Memᴰ ρ ρs → name (ρ .right) < n
   unfolding name
-  forced-high (edge ρ m s i) = let h : ρ .right < 2 * n = named ρ m .0 in omega arith
+  right-low ρ m = let h : ρ .right < 2 * n = named ρ m .0 in omega arith
+
+  pub forced-high : {y x : ℕ} → Forced ρs y x → x < n
+  forced-high (edge ρ m s i) = right-low ρ m
   forced-high (along x y z p q) = forced-high q
 
   inner-forced : (x s : ℕ) → List·Memᴰ s (inner-roles ρs x) → Forced ρs (name s) x

@@ -94,10 +94,6 @@ asked-inverse : (r : ℕ) (w : Chain) → polarity r ≡ 1 → asked r w ≡ inv
 unfolding asked
 asked-inverse r w h = rw (eq-eqb (polarity r) 1 h) refl
 
-judged-regular : (b : Book) (r : Result Book) → Judged b r → r ≡ ok b → Regular (b .rules)
-judged-regular b _ (has-order g) h = g
-judged-regular b _ (none k l front bad) h = absurd (refused-ok 8 k b h)
-
 module _ (s : List ℕ) (heads moves : ℕ) (b : Book) (e : built s heads moves ≡ ok b) where
   passed : Passed s b
   passed = accepted-passed s b (built-accepted s heads moves b e)
@@ -106,7 +102,7 @@ module _ (s : List ℕ) (heads moves : ℕ) (b : Book) (e : built s heads moves 
   well-read = ordered-read s b (passed .ordered)
 
   regular : Regular (b .rules)
-  regular = judged-regular b (ordered s) (ordered-judged s b well-read) (passed .ordered)
+  regular = ordered-regular s b (passed .ordered)
 
   few : b .names ≤ 64
   few = read-few-names s b well-read

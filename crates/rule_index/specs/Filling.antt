@@ -3,7 +3,7 @@
 use mathlib.Core.Bool.{true}
 use mathlib.Core.List.{List}
 use mathlib.Core.Path.{_≡_}
-use Prim.Native.Nat.{ℕ, suc, _+_, _*_, _<_, _≤_}
+use Prim.Native.Nat.{ℕ, suc, _+_, _-_, _*_, _<_, _≤_}
 use lib.ListN.{length, getD, drop}
 use mir.Val.{boolByte}
 use Rattle.roles.specs.Role.{name}
@@ -38,12 +38,12 @@ pub record Entering (s : List ℕ) (n : ℕ) (ix : List ℕ) : Type 0 where
   pub size : length ix ≡ 3904
   pub entry : (k : ℕ) → k < n → Recorded (rule-at s (rule-place s k)) ix k
 
--- the first n names have no rule of any kind, and their levels; the numbers of rules are as before
+-- the first n names have no rule of any kind, and their levels, counted from 0; the numbers of rules are as before
 pub record Started (levels : List ℕ) (n : ℕ) (before ix : List ℕ) : Type 0 where
   pub size : length ix ≡ 3904
   pub kept : (m : ℕ) → m < 3584 → getD ix m 0 ≡ getD before m 0
   pub first : (x : ℕ) → x < n → first-in ix x ≡ 256
-  pub level : (x : ℕ) → x < n → level-in ix x ≡ getD levels x 0
+  pub level : (x : ℕ) → x < n → level-in ix x ≡ getD levels x 0 - 1
   pub clear : (kind x : ℕ) → kind ≤ 1 → x < n → flag-in ix kind x ≡ 0
 
 -- the index has n rules, over at most 64 names, whose inner names are not their right names, and no name has a rule yet

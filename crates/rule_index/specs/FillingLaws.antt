@@ -2,7 +2,7 @@
 use mathlib.Core.List.{List}
 use mathlib.Core.Logic.{_⊎_, inl, inr}
 use mathlib.Core.Path.{_≡_, refl, sym, ap, _∙_}
-use Prim.Native.Nat.{ℕ, zero, suc, _+_, _*_, _<_, _≤_}
+use Prim.Native.Nat.{ℕ, zero, suc, _+_, _-_, _*_, _<_, _≤_}
 use native.Mathlib.Nat.{zero-add}
 use native.Mathlib.Omega.{arith}
 use lib.ListN.{length, getD, set, length-set}
@@ -172,7 +172,7 @@ started-none h =
     }
 
 pub started-more : {levels before ix : List ℕ} {x : ℕ} → x < 64 → Started levels x before ix
-    → Started levels (x + 1) before (set (set (set (set ix (3584 + x) 256) (3648 + x) (getD levels x 0)) (3712 + x) 0) (3776 + x) 0)
+    → Started levels (x + 1) before (set (set (set (set ix (3584 + x) 256) (3648 + x) (getD levels x 0 - 1)) (3712 + x) 0) (3776 + x) 0)
 started-more {levels} {before} {ix} {x} h l =
     record {
       size = length-two two _ _ _ _ ∙ length-two ix _ _ _ _ ∙ l .size;
@@ -183,13 +183,13 @@ started-more {levels} {before} {ix} {x} h l =
     }
   where
     two : List ℕ
-    two = set (set ix (3584 + x) 256) (3648 + x) (getD levels x 0)
+    two = set (set ix (3584 + x) 256) (3648 + x) (getD levels x 0 - 1)
 
     new : List ℕ
     new = set (set two (3712 + x) 0) (3776 + x) 0
 
     elsewhere : (m : ℕ) → (m ≡ 3584 + x → ⊥) → (m ≡ 3648 + x → ⊥) → getD two m 0 ≡ getD ix m 0
-    elsewhere = two-other ix (3584 + x) (3648 + x) 256 (getD levels x 0)
+    elsewhere = two-other ix (3584 + x) (3648 + x) 256 (getD levels x 0 - 1)
 
     apart : (m : ℕ) → (m ≡ 3712 + x → ⊥) → (m ≡ 3776 + x → ⊥) → getD new m 0 ≡ getD two m 0
     apart = two-other two (3712 + x) (3776 + x) 0 0
@@ -201,7 +201,7 @@ started-more {levels} {before} {ix} {x} h l =
     first-of y p (inl e) = rw e (two-first ix (3584 + x) (3648 + x) 256 _ (omega (arith, l .size)) (omega arith))
     first-of y p (inr e) = elsewhere (3584 + y) (omega arith) (omega arith) ∙ l .first y (omega arith)
 
-    level-of : (y : ℕ) → y < x + 1 → (y ≡ x) ⊎ (y ≡ x → ⊥) → level-in two y ≡ getD levels y 0
+    level-of : (y : ℕ) → y < x + 1 → (y ≡ x) ⊎ (y ≡ x → ⊥) → level-in two y ≡ getD levels y 0 - 1
     level-of y p (inl e) = rw e (two-second ix (3584 + x) (3648 + x) 256 _ (omega (arith, l .size)))
     level-of y p (inr e) = elsewhere (3648 + y) (omega arith) (omega arith) ∙ l .level y (omega arith)
 

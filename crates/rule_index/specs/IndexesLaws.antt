@@ -1,16 +1,13 @@
 -- The answer whole: a refused book and numbers of another length are left alone, and the three steps of filling together are the index.
 use mathlib.Core.List.{List, List·Memᴰ, List·Memᴰ·tail}
-use mathlib.Core.Path.{_≡_, refl, sym, ap, _∙_}
-use Prim.Native.Nat.{ℕ, _<_, _≤_}
+use mathlib.Core.Path.{_≡_, refl, sym, ap, _∙_, subst}
+use Prim.Native.Nat.{ℕ, _-_, _<_, _≤_}
 use native.Mathlib.Omega.{arith}
-use lib.ListN.{length, getD}
+use lib.ListN.{length, getD, replicate}
 use Rattle.roles.specs.Role.{name}
 use Rattle.roles.specs.Rule.{Rule, Book}
 use Rattle.roles.specs.Named.{Named}
-use Rattle.order.specs.Shape.{Shape, shape}
-use Rattle.order.specs.Shape.Shape.{transitive, symmetric, row}
-use Rattle.order.specs.Closure.{inner-of}
-use Rattle.order.specs.Leveled.{Fits}
+use Rattle.order.specs.Shape.{shape}
 use Rattle.order.specs.LeveledLaws.{inner-left}
 use Rattle.base.specs.Result.{Result, map-result}
 use Rattle.base.specs.Result.Result.{refused, ok}
@@ -20,27 +17,21 @@ use Rattle.book_format.specs.Place.{rule-at, rule-place}
 use Rattle.book_format.specs.FormatLaws.{getD-first-rules}
 use Rattle.book_format.specs.DecodeLaws.{Decoded, decoded}
 use Rattle.book_format.specs.ReadLaws.{read-decode, read-whole, read-named, named-name, named-member, rules-named, read-few-names}
-use Rattle.book_causes.specs.Accepted.{depth-of, count-or-none}
+use Rattle.book_causes.specs.Accepted.{levels-of, written}
+use Rattle.book_causes.specs.LevelsLaws.{Fitting, fits-same, levels-fitting}
 use Rattle.book_causes.specs.Ordered.{ordered}
 use Rattle.book_causes.specs.OrderedRun.{ordered-read}
 use Rattle.book_header.specs.declared.Header.{Header}
 use Rattle.book_decoder.specs.declared.verdict.Verdict.the-variants.{WellFormed}
 use Rattle.book_decoder.specs.Verdict.{header-of, says}
 use Rattle.order_checker.specs.declared.Ordering.{Ordering}
-use Rattle.order_checker.specs.Gather.{Levels, Ordered}
+use Rattle.order_checker.specs.Gather.{Ordered}
 use Rattle.table_languages.specs.LeftSides.{fits-apart}
 use Rattle.rule_index.specs.RuleLinks.{no-rule, rule, rule-member}
 use Rattle.rule_index.specs.RuleIndex.{Indexed, level-in, Recorded}
 use Rattle.rule_index.specs.Filling.{Ruled, Entering, Started, Linkable, Linking}
 use Rattle.rule_index.specs.FillingLaws.{recorded-kept}
 use Rattle.rule_index.specs.Indexes.{Indexes}
-
--- levels that agree on the names below 64 fit the same shapes of these names
-fits-same : (f g : ℕ → ℕ) → ((x : ℕ) → x < 64 → f x ≡ g x) → (x : ℕ) (sh : Shape) → x < 64 → ((s : ℕ) → List·Memᴰ s (inner-of sh) → name s < 64)
-    → Fits g x sh → Fits f x sh
-fits-same f g h x transitive p n l = tt
-fits-same f g h x symmetric p n l = tt
-fits-same f g h x (row from to inner) p n l = (l .0, λ s m. rw (h (name s) (n s m), h x p) (l .1 s m))
 
 -- a book in order
 module _ (s : List ℕ) (b : Book) (i : read s ≡ ok b) where
@@ -77,7 +68,7 @@ module _ (s : List ℕ) (b : Book) (i : read s ≡ ok b) where
         let r : Recorded (rule (b .rules) k) entered k = rw (rule-there k p) (e .entry k p) in
         recorded-kept k (omega (arith, few-rules)) (e .size) (t .size) (λ m v w u. t .kept m (omega (arith, few-rules))) r
 
-    ready : Levels levels b → Linkable (b .rules) (length (b .rules)) started
+    ready : Fitting levels b → Linkable (b .rules) (length (b .rules)) started
     ready l =
         record {
           size = t .size;
@@ -85,14 +76,14 @@ module _ (s : List ℕ) (b : Book) (i : read s ≡ ok b) where
           few = few-rules;
           entry = entry;
           small = small;
-          apart = λ k p. fits-apart (λ x. getD levels x 0) (rule (b .rules) k .right) (shape (rule (b .rules) k)) (l .fits _ (rule-member (b .rules) k p));
+          apart = λ k p. fits-apart (λ x. getD levels x 0 - 1) (rule (b .rules) k .right) (shape (rule (b .rules) k)) (l .fits _ (rule-member (b .rules) k p));
           none = t .first;
           clear = t .clear;
         }
 
     -- and linked
-    module _ (l : Levels levels b) (ix : List ℕ) (k : Linking (b .rules) 0 started ix) where
-      level : (x : ℕ) → x < 64 → level-in ix x ≡ getD levels x 0
+    module _ (l : Fitting levels b) (ix : List ℕ) (k : Linking (b .rules) 0 started ix) where
+      level : (x : ℕ) → x < 64 → level-in ix x ≡ getD levels x 0 - 1
       level x p = k .level x p ∙ t .level x p
 
       indexed : Indexed (b .rules) ix
@@ -110,26 +101,20 @@ module _ (s : List ℕ) (b : Book) (i : read s ≡ ok b) where
             kinds = k .kinds;
             fits =
                 λ ρ m.
-                fits-same (level-in ix) (λ x. getD levels x 0) level (name (ρ .right)) (shape ρ) (right-name ρ m)
-                (λ q j. left-name ρ m q (inner-left ρ q j)) (l .fits ρ m);
+                fits-same (level-in ix) (λ x. getD levels x 0 - 1) (name (ρ .right)) (shape ρ) (level (name (ρ .right)) (right-name ρ m))
+                (λ q j. level (name q) (left-name ρ m q (inner-left ρ q j))) (l .fits ρ m);
           }
 
       few-levels : (x : ℕ) → x < b .names → level-in ix x < b .names
       few-levels x p = rw (level x (omega (arith, read-few-names s b i))) (l .few x p)
 
--- the depth
-depth-given : (t : Result Book) → 0 ≡ count-or-none depth-of t
-unfolding depth-of
-depth-given (refused c v) = refl
-depth-given (ok b) = refl
-
 -- the answer, by the answer of the order check
 module _ {s : List ℕ} {r : Ordering} (o : Ordered s r) where
-  pub indexes-refused : {old : List ℕ} {c n : ℕ} → says (r .verdict) ≡ refused c n → Indexes s old old (record { verdict = r .verdict; depth = 0 })
+  pub indexes-refused : {old : List ℕ} {c n : ℕ} → says (r .verdict) ≡ refused c n → Indexes s old old (record { verdict = r .verdict; depth = r .depth })
   indexes-refused {old} {c} {n} e =
       record {
         verdict = o .verdict;
-        depth = depth-given (ordered s);
+        depth = o .depth;
         kept = λ _ _ _. refl;
         other = λ _. refl;
         index = λ b q. absurd (refused-ok c n (header-of b) (sym e ∙ o .verdict ∙ ap (map-result header-of) q));
@@ -153,14 +138,14 @@ module _ {s : List ℕ} {r : Ordering} (o : Ordered s r) where
     pub rules-whole : Ruled s (h .rules)
     rules-whole = rw (rules (passed .0) (passed .1)) (ruled s (passed .0) (ordered-read s (passed .0) (passed .1)))
 
-    pub levels-small : (x : ℕ) → x < 64 → getD (r .levels) x 0 < 64
-    levels-small = o .levels (passed .0) (passed .1) .small
+    fitting : (b : Book) → ordered s ≡ ok b → Fitting (r .levels) b
+    fitting b q = subst (λ (l : List ℕ). Fitting l b) (sym (o .levels ∙ ap (λ (t : Result Book). written t levels-of (replicate 64 0)) q)) (levels-fitting s b q (replicate 64 0))
 
-    pub indexes-other : {old : List ℕ} → (length old ≡ 3904 → ⊥) → Indexes s old old (record { verdict = WellFormed h; depth = 0 })
+    pub indexes-other : {old : List ℕ} → (length old ≡ 3904 → ⊥) → Indexes s old old (record { verdict = WellFormed h; depth = r .depth })
     indexes-other x =
         record {
           verdict = e;
-          depth = depth-given (ordered s);
+          depth = o .depth;
           kept = λ _ _ _. refl;
           other = λ _. refl;
           index = λ b q p. absurd (x p);
@@ -169,23 +154,23 @@ module _ {s : List ℕ} {r : Ordering} (o : Ordered s r) where
 
     module _ {entered started : List ℕ} (n : Entering s (h .rules) entered) (t : Started (r .levels) 64 entered started) where
       linkable-book : (b : Book) (q : ordered s ≡ ok b) → Linkable (b .rules) (h .rules) started
-      linkable-book b q = rw (rules b q) (ready s b (ordered-read s b q) (r .levels) entered started (rw (rules b q) at n) t (o .levels b q))
+      linkable-book b q = rw (rules b q) (ready s b (ordered-read s b q) (r .levels) entered started (rw (rules b q) at n) t (fitting b q))
 
       pub linkable : (ρs : List Rule) × Linkable ρs (h .rules) started
       linkable = (passed .0 .rules, linkable-book (passed .0) (passed .1))
 
       pub indexes-filled : {old : List ℕ} → length old ≡ 3904 → {new : List ℕ} → ((ρs : List Rule) → Linkable ρs (h .rules) started → Linking ρs 0 started new)
-          → Indexes s old new (record { verdict = WellFormed h; depth = 0 })
+          → Indexes s old new (record { verdict = WellFormed h; depth = r .depth })
       indexes-filled {old} z {new} k =
           record {
             verdict = e;
-            depth = depth-given (ordered s);
+            depth = o .depth;
             kept = λ c v q. absurd (refused-ok c v h (sym (e ∙ ap (map-result header-of) q)));
             other = λ w. absurd (w z);
             index =
                 λ b q p.
-                indexed s b (ordered-read s b q) (r .levels) entered started (rw (rules b q) at n) t (o .levels b q) new (k _ (linkable-book b q));
+                indexed s b (ordered-read s b q) (r .levels) entered started (rw (rules b q) at n) t (fitting b q) new (k _ (linkable-book b q));
             few =
                 λ b q p.
-                few-levels s b (ordered-read s b q) (r .levels) entered started (rw (rules b q) at n) t (o .levels b q) new (k _ (linkable-book b q));
+                few-levels s b (ordered-read s b q) (r .levels) entered started (rw (rules b q) at n) t (fitting b q) new (k _ (linkable-book b q));
           }

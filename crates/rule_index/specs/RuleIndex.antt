@@ -1,7 +1,7 @@
 -- An index of rules by their right name, 3,904 numbers. Rule k has 14 of them from 14 k on: its right role; its kind, 0 for form 4, 1 for form 5
 -- and 2 for a row; whether the row begins, and whether it ends, at the final state; how many inner roles it has; the next rule of the same right
--- name; the inner roles. At 3584 + x stands the first rule of right name x, at 3648 + x the level of name x, at 3712 + 64 κ + x whether name x has
--- a rule of kind κ, 1 or 0. 256 stands for no rule.
+-- name; the inner roles. At 3584 + x stands the first rule of right name x, at 3648 + x the level of x, counted from 0, at 3712 + 64 κ + x whether x
+-- has a rule of kind κ, 1 or 0. 256 stands for no rule.
 use mathlib.Core.List.{List, List·Memᴰ}
 use mathlib.Core.Path.{_≡_}
 use Prim.Native.Nat.{ℕ, zero, suc, _+_, _*_, _<_, _≤_}

@@ -1,11 +1,11 @@
 // An index of a book's rules by right name, 3,904 numbers: 14 for each rule, which say its right role, its shape and the next rule of the same
-// right name, then the first rule of each name, then the level of each name, then for each of the three kinds of rules which names have one. 256
-// stands for no rule.
+// right name, then the first rule of each name, then the level of each name, counted from 0, then for each of the three kinds of rules which
+// names have one. 256 stands for no rule.
 ghost use mathlib.Core.Bool.{cond};
 ghost use mathlib.Core.List.{List};
 ghost use mathlib.Core.Path.{_≡_};
-ghost use Prim.Native.Nat.{ℕ, _<_, _≤_};
-ghost use lib.ListN.{length, getD};
+ghost use Prim.Native.Nat.{_-_, _<_, _≤_};
+ghost use lib.ListN.{length};
 ghost use Rattle.roles.specs.Rule.{Rule};
 ghost use Rattle.rule_index.specs.Filling.{Ruled, Entered, Entering, Started, Linkable, Linking};
 ghost use Rattle.rule_index.specs.Indexes.{Indexes};
@@ -33,16 +33,17 @@ pub fn index(book: &[u8], index: &mut [u16]) -> Indexing
 {
     let ordering = order(book);
     let verdict = ordering.verdict;
+    let depth = ordering.depth;
     let Verdict::WellFormed(header) = verdict else {
         return Indexing {
             verdict: verdict,
-            depth: 0,
+            depth: depth,
         };
     };
     if index.len() != 3904 {
         return Indexing {
             verdict: verdict,
-            depth: 0,
+            depth: depth,
         };
     }
     let rules = header.rules;
@@ -52,7 +53,7 @@ pub fn index(book: &[u8], index: &mut [u16]) -> Indexing
     link(rules, index);
     Indexing {
         verdict: verdict,
-        depth: 0,
+        depth: depth,
     }
 }
 
@@ -96,19 +97,29 @@ fn enter_rule(left: &[u8], right: u8, k: usize, index: &mut [u16])
     }
 }
 
-// No rule of any name or kind yet, and the levels.
+// No rule of any name or kind yet, and the levels, counted from 0.
 fn start(levels: &[u8; 64], index: &mut [u16])
-    requires { ⌜ (length (now index) ≡ 3904) × ((x : ℕ) → x < 64 → getD (now levels) x 0 < 64) ⌝ }
+    requires { ⌜ length (now index) ≡ 3904 ⌝ }
     ensures { λ _. ⌜ Started (now (levels .entry)) 64 (now (index .entry)) (now (index .exit)) ⌝ }
 {
     let mut x = 0;
     while x < 64 {
         index[3584 + x] = 256;
-        index[3648 + x] = levels[x] as u16;
+        index[3648 + x] = from_zero(levels[x]);
         index[3712 + x] = 0;
         index[3776 + x] = 0;
         x += 1;
     }
+}
+
+// A level counted from 0, and no level as 0.
+fn from_zero(level: u8) -> u16
+    ensures { λ r. ⌜ r ≡ level - 1 ⌝ }
+{
+    if level == 0 {
+        return 0;
+    }
+    level as u16 - 1
 }
 
 // From the last rule to the first, each goes in front of the rules of its right name, which has a rule of its kind then.

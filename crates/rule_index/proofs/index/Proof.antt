@@ -3,7 +3,7 @@ use mathlib.Core.Path.{ap}
 use native.Mathlib.Omega.{arith}
 use borrow.Author.Needs.{needs}
 use Rattle.book_decoder.specs.Verdict.{says}
-use Rattle.rule_index.specs.IndexesLaws.{indexes-refused, indexes-other, rules-whole, levels-small, linkable, indexes-filled}
+use Rattle.rule_index.specs.IndexesLaws.{indexes-refused, indexes-other, rules-whole, linkable, indexes-filled}
 use Rattle.rule_index.proofs.index.Statement.{statement}
 use Rattle.rule_index.proofs.index.Tie as tie
 
@@ -13,9 +13,7 @@ enter-requires c κs =
     (rules-whole (v .before .before .order .ensures) (v .verdict .given .1), omega arith)
 
 start-requires : tie.Need-start-requires
-start-requires c κs =
-    let v = c .before .before .before .before .before .before .before .before .before in
-    (c .before .before .before .before .enter .ensures .size, levels-small (v .before .before .order .ensures) (v .verdict .given .1))
+start-requires c κs = c .before .before .before .before .enter .ensures .size
 
 link-requires : tie.Need-link-requires
 link-requires c κs =
