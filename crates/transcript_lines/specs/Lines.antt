@@ -40,9 +40,10 @@ cut-word = 0x20 ∷ 0x63 ∷ 0x75 ∷ 0x74 ∷ 0x0A ∷ []
 abbrev pub end-line : List ℕ
 end-line = 0x0A ∷ []
 
--- the first line: the numbers of states and transitions, or the refusal by its number and second value
-abbrev pub first-line : Result (ℕ × ℕ) → List ℕ
-first-line (ok (states, transitions)) = book-word ++ decimal states ++ space ++ decimal transitions ++ end-line
+-- the first line: the numbers of states and transitions and the depth, or the refusal by its number and second value
+abbrev pub first-line : Result (ℕ × (ℕ × ℕ)) → List ℕ
+first-line (ok (states, (transitions, depth))) =
+    book-word ++ decimal states ++ space ++ decimal transitions ++ space ++ decimal depth ++ end-line
 first-line (refused cause value) = book-refused-word ++ decimal cause ++ space ++ decimal value ++ end-line
 
 -- the line of question k: yes, no or the number of the refusal

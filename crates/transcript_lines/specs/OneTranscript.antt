@@ -9,7 +9,7 @@ use Rattle.roles.specs.Rule.{Book}
 use Rattle.base.specs.Result.{Result}
 use Rattle.base.specs.Result.Result.{refused, ok}
 use Rattle.base.specs.ResultLaws.{refused-ok}
-use Rattle.book_causes.specs.Accepted.{states-of, count-of}
+use Rattle.book_causes.specs.Accepted.{summary}
 use Rattle.book_causes.specs.AcceptedLaws.{building-one}
 use Rattle.query_correctness.specs.Reply.{Decided}
 use Rattle.query_correctness.specs.OneReply.{decided-one}
@@ -60,4 +60,4 @@ session-one s q _ _ (served b d lines h t) (refuses c v g) = absurd (refused-ok 
 session-one s q _ _ (served b d lines h t) (served b′ d′ lines′ g t′) =
     let same = building-one h g in
     let rest : lines ≡ lines′ = transcript-one (Decided b) (decided-one b) 0 q lines lines′ t (rw (← same .0) at t′) in
-    ap₂ (λ (x : Book) (l : List ℕ). first-line (ok (states-of x, count-of x)) ++ l) (same .1) rest
+    ap₂ (λ (x : Book) (l : List ℕ). first-line (ok (summary x)) ++ l) (same .1) rest

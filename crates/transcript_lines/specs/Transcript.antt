@@ -8,7 +8,7 @@ use Rattle.roles.specs.Role.{Chain}
 use Rattle.roles.specs.Rule.{Book}
 use Rattle.base.specs.Result.{Result}
 use Rattle.base.specs.Result.Result.{refused, ok}
-use Rattle.book_causes.specs.Accepted.{states-of, count-of, built, Building}
+use Rattle.book_causes.specs.Accepted.{summary, built, Building}
 use Rattle.query_causes.specs.Input.{links-of, is-whole}
 use Rattle.query_correctness.specs.Reply.{Decided}
 use Rattle.transcript_lines.specs.Lines.{first-line, answer-line, cut-line}
@@ -39,4 +39,4 @@ pub data Transcript (Says : ℕ → Chain → Result Bool → Type 0) : ℕ → 
 pub data Session (s q : List ℕ) : List ℕ → Type 0 where
   refuses : (cause value : ℕ) → built s 64 15360 ≡ refused cause value → Session s q (first-line (refused cause value))
   served : (b d : Book) (lines : List ℕ) → Building s 64 15360 b d → Transcript (Decided b) 0 q lines
-      → Session s q (first-line (ok (states-of d, count-of d)) ++ lines)
+      → Session s q (first-line (ok (summary d)) ++ lines)
