@@ -53,6 +53,16 @@ same-pair-sound a b h =
     ap₂ (λ (x y : ℕ). (x, y)) (eqb-true (a .0) (b .0) (and-left (eqb (a .0) (b .0)) (eqb (a .1) (b .1)) h))
     (eqb-true (a .1) (b .1) (and-right (eqb (a .0) (b .0)) (eqb (a .1) (b .1)) h))
 
+-- two triples of numbers are the same
+unfoldable pub same-triple : (a b : ℕ × (ℕ × ℕ)) → Bool
+same-triple a b = eqb (a .0) (b .0) && same-pair (a .1) (b .1)
+
+pub same-triple-sound : (a b : ℕ × (ℕ × ℕ)) → same-triple a b ≡ true → a ≡ b
+unfolding same-triple
+same-triple-sound a b h =
+    ap₂ (λ (x : ℕ) (y : ℕ × ℕ). (x, y)) (eqb-true (a .0) (b .0) (and-left (eqb (a .0) (b .0)) (same-pair (a .1) (b .1)) h))
+    (same-pair-sound (a .1) (b .1) (and-right (eqb (a .0) (b .0)) (same-pair (a .1) (b .1)) h))
+
 -- two results are the same, where a test says so of two values
 module _ {A : Type 0} (same : A → A → Bool) where
   unfoldable pub same-result : Result A → Result A → Bool

@@ -9,7 +9,7 @@ use Rattle.roles.specs.Role.{Chain}
 use Rattle.roles.specs.Rule.{Book}
 use Rattle.base.specs.Result.{Result, map-result}
 use Rattle.base.specs.Result.Result.{refused, ok}
-use Rattle.book_causes.specs.Accepted.{states-of, count-of, heads-of, built, written}
+use Rattle.book_causes.specs.Accepted.{summary, heads-of, built, written}
 use Rattle.base.specs.Every.{Every}
 use Rattle.query_correctness.specs.Reply.{Replied}
 use Rattle.transcript_lines.specs.Transcript.{Session}
@@ -19,11 +19,11 @@ pub record Question : Type 0 where
   pub chain : Chain
   pub answer : Result Bool
 
--- first: the numbers of states and transitions, or the refusal's number and value; heads: the initial states written, none where refused;
+-- first: the numbers of states and transitions and the depth, or the refusal's number and value; heads: the initial states written, none where refused;
 -- input: the bytes on standard input; transcript: the bytes that the program writes
 pub record Example : Type 0 where
   pub book : List ℕ
-  pub first : Result (ℕ × ℕ)
+  pub first : Result (ℕ × (ℕ × ℕ))
   pub heads : List ℕ
   pub questions : List Question
   pub input : List ℕ
@@ -64,7 +64,7 @@ examples =
           ∷ 0x02 ∷ 0x02 ∷ 0x00 ∷ 0x02
           ∷ 0x06 ∷ 0x02 ∷ 0x02 ∷ 0x04
           ∷ []);
-      first = ok (16, 18);
+      first = ok (16, (18, 3));
       heads = 0 ∷ 2 ∷ 6 ∷ 8 ∷ [];
       questions =
           -- the five questions put to the program
@@ -88,8 +88,8 @@ examples =
           ∷ [];
       -- the six lines
       transcript =
-          -- book 16 18
-          0x62 ∷ 0x6F ∷ 0x6F ∷ 0x6B ∷ 0x20 ∷ 0x31 ∷ 0x36 ∷ 0x20 ∷ 0x31 ∷ 0x38 ∷ 0x0A
+          -- book 16 18 3
+          0x62 ∷ 0x6F ∷ 0x6F ∷ 0x6B ∷ 0x20 ∷ 0x31 ∷ 0x36 ∷ 0x20 ∷ 0x31 ∷ 0x38 ∷ 0x20 ∷ 0x33 ∷ 0x0A
           -- 0 yes
           ∷ 0x30 ∷ 0x20 ∷ 0x79 ∷ 0x65 ∷ 0x73 ∷ 0x0A
           -- 1 no
@@ -111,27 +111,24 @@ examples =
     -- one name, no rule
     ∷ record {
       book = bytes 0x01 0x00 [];
-      first = ok (2, 1);
+      first = ok (2, (1, 1));
       heads = 0 ∷ [];
       questions = [];
       input = [];
-      -- book 2 1
-      transcript = 0x62 ∷ 0x6F ∷ 0x6F ∷ 0x6B ∷ 0x20 ∷ 0x32 ∷ 0x20 ∷ 0x31 ∷ 0x0A ∷ [];
+      -- book 2 1 1
+      transcript = 0x62 ∷ 0x6F ∷ 0x6F ∷ 0x6B ∷ 0x20 ∷ 0x32 ∷ 0x20 ∷ 0x31 ∷ 0x20 ∷ 0x31 ∷ 0x0A ∷ [];
     }
     -- no name
     ∷ refusal (bytes 0x00 0x00 []) 4 0 (refused-line 0x34 0x30)
     ∷ []
 
--- what a build of the book gives, and the two numbers of its first line
+-- what a build of the book gives
 abbrev pub build : Example → Result Book
 build e = built (e .book) 64 15360
 
-abbrev pub counts : Book → ℕ × ℕ
-counts b = (states-of b, count-of b)
-
 -- what the table says of an example is so
 pub record Holds (e : Example) : Type 0 where
-  pub first : map-result counts (build e) ≡ e .first
+  pub first : map-result summary (build e) ≡ e .first
   pub heads : written (build e) heads-of [] ≡ e .heads
   pub questions : Every (λ (q : Question). Replied (e .book) 64 15360 (q .role) (q .chain) (q .answer)) (e .questions)
   pub session : Session (e .book) (e .input) (e .transcript)

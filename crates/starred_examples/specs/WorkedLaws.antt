@@ -10,12 +10,13 @@ use Rattle.roles.specs.RoleLaws.{same-chain-sound}
 use Rattle.roles.specs.Rule.{Book, inverse, same-rule}
 use Rattle.order.specs.Closure.{reaches, with-inner}
 use Rattle.order.specs.Shape.{leads, trails, shape}
+use Rattle.order.specs.Depth.{inner-roles, highest, level-of, levels-from}
 use Rattle.tables.specs.Tables.{rules-of, has-symmetric, has-transitive, shapes, row-size, rows-size, row-transitions, rows-transitions, letters, back, size-of, transitions-of, roots-from, transitions-from, states-from, numbers}
 use Rattle.base.specs.Result.{Result, map-result}
 use Rattle.base.specs.Result.Result.{refused, ok}
 use Rattle.book_format.specs.Format.{front, named, one-rule, rules-from, decode, repeats, distinct, read}
 use Rattle.book_causes.specs.Ordered.{order-from, ordered}
-use Rattle.book_causes.specs.Accepted.{heads-of, moves-of, fitting, built, written}
+use Rattle.book_causes.specs.Accepted.{depth-of, summary, heads-of, moves-of, fitting, built, written}
 use Rattle.query_causes.specs.Query.{transitions-in, heads-fit, transitions-fit, tables-fit, query, asked, Answered}
 use Rattle.book_causes.specs.AcceptedLaws.{building}
 use Rattle.query_correctness.specs.Reply.{Decided, Replied}
@@ -26,8 +27,8 @@ use Rattle.transcript_lines.specs.Transcript.{next, Session}
 use Rattle.transcript_lines.specs.Transcript.Session.{refuses as stopped, served}
 use Rattle.transcript_lines.specs.TranscriptLaws.{transcript-map}
 use Rattle.base.specs.Every.{Every}
-use Rattle.starred_examples.specs.Worked.{Question, Example, counts, build, examples, Holds}
-use Rattle.starred_examples.specs.Checks.{all, all-every, among, same-pair, same-pair-sound, same-result, same-result-sound, same-answer, same-answer-sound}
+use Rattle.starred_examples.specs.Worked.{Question, Example, build, examples, Holds}
+use Rattle.starred_examples.specs.Checks.{all, all-every, among, same-pair, same-triple, same-triple-sound, same-result, same-result-sound, same-answer, same-answer-sound}
 use Rattle.starred_examples.specs.PathSearch.{predecessors, closure, closed, starts, exhaustive, found, answers}
 use Rattle.starred_examples.specs.PathSearchLaws.{answers-answered}
 use Rattle.starred_examples.specs.PathSearchLines.{front-lines, lines, front-searched, searched}
@@ -55,7 +56,7 @@ writes : Result Book → (input transcript : List ℕ) → Bool
 writes (refused c v) q out = same-chain (first-line (refused c v)) out
 writes (ok b) q out =
     searched (heads-of b) (moves-of b) (suc (length q)) q
-    && same-chain (first-line (ok (counts b)) ++ lines (heads-of b) (moves-of b) (suc (length q)) 0 q) out
+    && same-chain (first-line (ok (summary b)) ++ lines (heads-of b) (moves-of b) (suc (length q)) 0 q) out
 
 writes-session : (s q out : List ℕ) → writes (built s 64 15360) q out ≡ true → Session s q out
 unfolding writes
@@ -67,8 +68,8 @@ writes-session s q out = by-result (built s 64 15360) refl
         let fuel : ℕ = suc (length q) in
         let made : List ℕ = lines (heads-of b) (moves-of b) fuel 0 q in
         let sure : Bool = searched (heads-of b) (moves-of b) fuel q in
-        let same : Bool = same-chain (first-line (ok (counts b)) ++ made) out in
-        subst (Session s q) (same-chain-sound (first-line (ok (counts b)) ++ made) out (and-right sure same h))
+        let same : Bool = same-chain (first-line (ok (summary b)) ++ made) out in
+        subst (Session s q) (same-chain-sound (first-line (ok (summary b)) ++ made) out (and-right sure same h))
         (served b b made (building s 64 15360 b e)
         (transcript-map (Answered (heads-of b) (moves-of b)) (Decided b) (decided s 64 15360 b e) 0 q made
         (lines-transcript (heads-of b) (moves-of b) fuel 0 q (and-left sure same h))))
@@ -76,7 +77,7 @@ writes-session s q out = by-result (built s 64 15360) refl
 -- the test of an example
 test : Example → Bool
 test e =
-    same-result same-pair (map-result counts (build e)) (e .first)
+    same-result same-triple (map-result summary (build e)) (e .first)
     && same-chain (written (build e) heads-of []) (e .heads)
     && all (replies (build e)) (e .questions)
     && writes (build e) (e .input) (e .transcript)
@@ -85,14 +86,14 @@ test e =
 test-holds : (e : Example) → test e ≡ true → Holds e
 unfolding test
 test-holds e h =
-    let first : Bool = same-result same-pair (map-result counts (build e)) (e .first) in
+    let first : Bool = same-result same-triple (map-result summary (build e)) (e .first) in
     let heads : Bool = same-chain (written (build e) heads-of []) (e .heads) in
     let questions : Bool = all (replies (build e)) (e .questions) in
     let session : Bool = writes (build e) (e .input) (e .transcript) in
     let three : (first && heads && questions) ≡ true = and-left (first && heads && questions) session h in
     let two : (first && heads) ≡ true = and-left (first && heads) questions three in
     record {
-      first = same-result-sound same-pair same-pair-sound (map-result counts (build e)) (e .first) (and-left first heads two);
+      first = same-result-sound same-triple same-triple-sound (map-result summary (build e)) (e .first) (and-left first heads two);
       heads = same-chain-sound (written (build e) heads-of []) (e .heads) (and-right first heads two);
       questions = all-every (replies (build e)) _ (replies-replied (e .book)) (e .questions) (and-right (first && heads) questions three);
       session = writes-session (e .book) (e .input) (e .transcript) (and-right (first && heads && questions) session h);
@@ -100,15 +101,16 @@ test-holds e h =
 
 -- every example passes, by evaluation of the definitions from a book's bytes to its tables, of the search in these and of the lines
 test-passed : all test examples ≡ true
-unfolding test replies writes examples all among same-pair same-result decide predecessors closure closed starts exhaustive found answers
+unfolding test replies writes examples all among same-pair same-triple same-result decide predecessors closure closed starts exhaustive found answers
     lines front-lines searched front-searched next decimal decimal-from
     built fitting ordered order-from read decode distinct repeats rules-from one-rule front named
     inverse inv-chain inv name polarity same-rule same-chain reaches with-inner shape leads trails
+    depth-of levels-from level-of inner-roles highest
     rules-of has-symmetric has-transitive shapes row-size rows-size row-transitions rows-transitions letters back size-of transitions-of
     roots-from transitions-from states-from numbers transitions-in heads-fit transitions-fit tables-fit query asked
 test-passed = refl
 
--- every example of the table holds: from the bytes of each book, the numbers of states and transitions or the refusal; the initial states;
+-- every example of the table holds: from the bytes of each book, the numbers of states and transitions and the depth, or the refusal; the initial states;
 -- the answer to each question, by derivation; and the bytes that the program writes for an input, such as the hall book's six lines
 pub worked : Every Holds examples
 worked = all-every test Holds test-holds examples test-passed
