@@ -10,10 +10,10 @@ use Rattle.transcript_lines.specs.Lines.{answer-line}
 use Rattle.query_answerer.specs.Batch.{told}
 use Rattle.line_writer.specs.Puts.{Puts}
 
--- the numbers of states and transitions of an accepted book, or the number and the second value of a refusal
-abbrev pub book-says : Bool → ℕ → ℕ → Result (ℕ × ℕ)
-book-says true first second = ok (first, second)
-book-says false first second = refused first second
+-- the numbers of states and transitions and the depth of an accepted book, or the number and the second value of a refusal
+abbrev pub book-says : Bool → ℕ → ℕ → ℕ → Result (ℕ × (ℕ × ℕ))
+book-says true first second third = ok (first, (second, third))
+book-says false first second third = refused first second
 
 -- the line of one question, of at most 64 bytes
 pub record PutsAnswer (out : List ℕ) (at k byte : ℕ) (out′ : List ℕ) (end : ℕ) : Type 0 where

@@ -16,7 +16,7 @@ use Rattle.transcript_lines.specs.LinesLaws.{decimal-digits}
 use Rattle.transcript_lines.specs.TranscriptLaws.{next-nothing, next-part}
 use Rattle.transcript_lines.specs.Block.{ending}
 use Rattle.transcript_lines.specs.BlockLaws.{next-here}
-use Rattle.line_writer.specs.Puts.{Puts, PutsNumber}
+use Rattle.line_writer.specs.Puts.{Puts, PutsNumber, PutsPair}
 use Rattle.line_writer.specs.PutsLaws.{puts-none, puts-then, puts-as, puts-length}
 use Rattle.line_writer.specs.Said.{answer-lines, PutsAnswer, Room, HasRoom, WritesLines, LinesPut}
 
@@ -31,9 +31,18 @@ puts-number {word = word} d p q =
     record { puts = puts-as (puts-then p q) (ap (λ (t : List ℕ). t ++ word) (d .0)); short = omega (arith, d .1, p .ends, q .ends) }
 
 -- a word and two numbers
-pub puts-pair : {out out₁ out₂ out₃ word : List ℕ} {a b start middle end : ℕ} → Puts out 0 word out₁ start → PutsNumber out₁ start a space out₂ middle
-    → PutsNumber out₂ middle b end-line out₃ end → Puts out 0 (word ++ decimal a ++ space ++ decimal b ++ end-line) out₃ end
-puts-pair p q r = puts-as (puts-then (puts-then p (q .puts)) (r .puts)) (simp append-assoc)
+pub puts-pair : {out out₁ out₂ out₃ word last : List ℕ} {a b start middle end : ℕ} → Puts out 0 word out₁ start → PutsNumber out₁ start a space out₂ middle
+    → PutsNumber out₂ middle b last out₃ end → PutsPair out word a b last out₃ end
+puts-pair p q r =
+    record {
+      puts = puts-as (puts-then (puts-then p (q .puts)) (r .puts)) (simp append-assoc);
+      short = omega (arith, p .ends, q .short, r .short);
+    }
+
+-- and a third
+pub puts-third : {out out₁ out₂ word : List ℕ} {a b c middle end : ℕ} → PutsPair out word a b space out₁ middle → PutsNumber out₁ middle c end-line out₂ end
+    → Puts out 0 (word ++ decimal a ++ space ++ decimal b ++ space ++ decimal c ++ end-line) out₂ end
+puts-third p q = puts-as (puts-then (p .puts) (q .puts)) (simp append-assoc)
 
 -- the line of a question by its byte
 told-refused : (b : ℕ) → (b ≡ 0 → ⊥) → (b ≡ 1 → ⊥) → told b ≡ refused b 0

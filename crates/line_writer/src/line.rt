@@ -1,34 +1,34 @@
-// The lines. Each has at most 64 bytes: two numbers of at most 20 digits, and words.
-ghost use mathlib.Core.List.{_++_};
+// The lines, of words and numbers of at most 20 digits. The first line of an accepted book has at most 5 + 3 * 21 = 68 bytes, every other at most 64.
 ghost use Prim.Native.Nat.{_+_, _≤_};
 ghost use lib.ListN.{length};
-ghost use Rattle.transcript_lines.specs.Lines.{decimal, space, end-line, first-line};
+ghost use Rattle.transcript_lines.specs.Lines.{first-line};
 ghost use Rattle.transcript_lines.specs.Block.{ending};
-ghost use Rattle.line_writer.specs.Puts.{Puts};
+ghost use Rattle.line_writer.specs.Puts.{Puts, PutsPair};
 ghost use Rattle.line_writer.specs.Said.{book-says, HasRoom, PutsAnswer, WritesLines};
 use crate::question::is_whole;
 use crate::text::put;
 use crate::text::put_number;
 
-// Puts the first line at the front of the buffer, and returns its length: of an accepted book the numbers of states and transitions, else the number and
-// the second value of the refusal.
-pub fn first_line(accepted: bool, first: u64, second: u64, line: &mut [u8; 64]) -> usize
-    ensures { λ r. ⌜ Puts (now (line .entry)) 0 (first-line (book-says accepted first second)) (now (line .exit)) r ⌝ }
+// Puts the first line at the front of the buffer, and returns its length: of an accepted book the numbers of states and transitions and the depth, else
+// the number and the second value of the refusal, where the third number is not read.
+pub fn first_line(accepted: bool, first: u64, second: u64, third: u64, line: &mut [u8; 72]) -> usize
+    ensures { λ r. ⌜ Puts (now (line .entry)) 0 (first-line (book-says accepted first second third)) (now (line .exit)) r ⌝ }
 {
     if accepted {
-        return put_pair(line, b"book ", first, second);
+        let end = put_pair(line, b"book ", first, second, b" ");
+        return put_number(line, end, third, b"\n");
     }
-    put_pair(line, b"book refused ", first, second)
+    put_pair(line, b"book refused ", first, second, b"\n")
 }
 
-// Puts a line at the front of the buffer: a word, a number, a space and a number.
-fn put_pair(line: &mut [u8], word: &[u8], first: u64, second: u64) -> usize
-    requires { ⌜ (length (now word) ≤ 13) × (64 ≤ length (now line)) ⌝ }
-    ensures { λ r. ⌜ Puts (now (line .entry)) 0 (now (word .entry) ++ decimal first ++ space ++ decimal second ++ end-line) (now (line .exit)) r ⌝ }
+// Puts a word, a number, a space, a number and a last word at the front of the buffer; returns the place after them.
+fn put_pair(line: &mut [u8], word: &[u8], first: u64, second: u64, last: &[u8]) -> usize
+    requires { ⌜ length (now word) + 41 + length (now last) ≤ length (now line) ⌝ }
+    ensures { λ r. ⌜ PutsPair (now (line .entry)) (now (word .entry)) first second (now (last .entry)) (now (line .exit)) r ⌝ }
 {
     let start = put(line, 0, word);
     let middle = put_number(line, start, first, b" ");
-    put_number(line, middle, second, b"\n")
+    put_number(line, middle, second, last)
 }
 
 // Puts the lines of questions that are answered by these bytes, numbered from `number` on, at a place, and returns the place after them. Without 64
