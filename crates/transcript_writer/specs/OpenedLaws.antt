@@ -7,7 +7,7 @@ use Rattle.roles.specs.Rule.{Book}
 use Rattle.tables.specs.Tables.{transitions}
 use Rattle.base.specs.Result.{Result, map-result}
 use Rattle.base.specs.Result.Result.{refused, ok}
-use Rattle.book_causes.specs.Accepted.{states-of, count-of, heads-of, moves-of, built}
+use Rattle.book_causes.specs.Accepted.{count-of, summary, heads-of, moves-of, built, count-or-none}
 use Rattle.base.specs.Writing.{over}
 use Rattle.table_laying.specs.Pieces.{length-numbers, length-roots}
 use Rattle.table_limits.specs.declared.Outcome.{Outcome}
@@ -19,14 +19,14 @@ use Rattle.line_writer.specs.PutsLaws.{puts-as}
 use Rattle.line_writer.specs.Said.{book-says}
 use Rattle.transcript_writer.specs.declared.opening.Opening.{Opening}
 use Rattle.transcript_writer.specs.declared.opening.Report.{Report}
-use Rattle.transcript_writer.specs.Opened.{heads-in, moves-in, count-or-none, is-ok, reported, Opens}
+use Rattle.transcript_writer.specs.Opened.{heads-in, moves-in, is-ok, reported, Opens}
 
 -- the numbers of a book, as its first line and its tables have them
 abbrev line-of : Result Book → List ℕ
-line-of t = first-line (map-result (λ (b : Book). (states-of b, count-of b)) t)
+line-of t = first-line (map-result summary t)
 
 abbrev report-line : Report → List ℕ
-report-line r = first-line (book-says (r .accepted) (r .first) (r .second))
+report-line r = first-line (book-says (r .accepted) (r .first) (r .second) (r .third))
 
 abbrev report-of : Result Book → Report
 report-of t = reported (map-result counts-of t)

@@ -8,7 +8,7 @@ use lib.ListN.{take}
 use Rattle.roles.specs.Rule.{Book}
 use Rattle.base.specs.Result.{Result, map-result}
 use Rattle.base.specs.Result.Result.{refused, ok}
-use Rattle.book_causes.specs.Accepted.{states-of, count-of, built}
+use Rattle.book_causes.specs.Accepted.{summary, built}
 use Rattle.query_causes.specs.Query.{Answered}
 use Rattle.query_causes.specs.Input.{Broken}
 use Rattle.query_correctness.specs.Reply.{Decided}
@@ -24,7 +24,7 @@ use Rattle.transcript_writer.specs.Opened.{heads-in, moves-in, is-ok, Op
 use Rattle.transcript_writer.specs.OpenedLaws.{opened-heads, opened-moves}
 
 module _ {s h m line line′ : List ℕ} {r : Opening} (o : Opens s h m line line′ r) where
-  wrote : take (r .written) line′ ≡ first-line (map-result (λ (b : Book). (states-of b, count-of b)) (built s 64 15360))
+  wrote : take (r .written) line′ ≡ first-line (map-result summary (built s 64 15360))
   wrote = puts-front (o .puts)
 
   -- blocks answered by the tables of the opening are answered by the book

@@ -22,7 +22,7 @@ pub struct Opening {
 }
 
 // Builds the tables of a book and puts its first line at the front of the buffer.
-pub fn open(book: &[u8], line: &mut [u8; 64]) -> Opening
+pub fn open(book: &[u8], line: &mut [u8; 72]) -> Opening
     ensures { λ r. ⌜ Opens (now (book .entry)) (replicate 64 0) (replicate 15360 0) (now (line .entry)) (now (line .exit)) r ⌝ }
 {
     let mut heads = [0u16; 64];
@@ -35,16 +35,23 @@ pub fn open(book: &[u8], line: &mut [u8; 64]) -> Opening
             names: report.names,
             transitions: report.transitions,
         },
-        written: first_line(report.accepted, report.first, report.second, line),
+        written: first_line(
+            report.accepted,
+            report.first,
+            report.second,
+            report.third,
+            line,
+        ),
         accepted: report.accepted,
     }
 }
 
-// A build in numbers: whether the book is accepted, the two numbers of its first line, and how many heads and transitions count.
+// A build in numbers: whether the book is accepted, the numbers of its first line, and how many heads and transitions count.
 struct Report {
     accepted: bool,
     first: u64,
     second: u64,
+    third: u64,
     names: usize,
     transitions: usize,
 }
@@ -58,6 +65,7 @@ fn in_numbers(outcome: Outcome) -> Report
             accepted: true,
             first: counts.states as u64,
             second: counts.transitions as u64,
+            third: counts.depth as u64,
             names: counts.names,
             transitions: counts.transitions,
         },
@@ -65,6 +73,7 @@ fn in_numbers(outcome: Outcome) -> Report
             accepted: false,
             first: refusals::build_cause(refusal) as u64,
             second: refusals::build_value(refusal) as u64,
+            third: 0,
             names: 0,
             transitions: 0,
         },
