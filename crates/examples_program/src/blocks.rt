@@ -15,7 +15,7 @@ struct Left {
 
 // Writes all that the program would write for the first `size` bytes of the questions in two blocks, of which the first has `border` bytes.
 pub(crate) fn try_blocks(questions: &[u8], border: usize, size: usize) {
-    let mut line = [0u8; 64];
+    let mut line = [0u8; 72];
     let opening = transcript_writer::open(&HALL, &mut line);
     let tables = opening.tables;
     io::write_all(STDOUT_FILENO, part(&line, 0, opening.written));

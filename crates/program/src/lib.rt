@@ -34,7 +34,7 @@ pub fn run(path: &[u8]) -> Stop
 {
     // Longer than any book, so that a file that is too long is seen to be.
     let mut book = [0u8; 4096];
-    let mut line = [0u8; 64];
+    let mut line = [0u8; 72];
     let size = read_book(path, &mut book);
     let opening = transcript_writer::open(&book[..size], &mut line);
     let written = opening.written;
