@@ -6,10 +6,13 @@ mod c {
     #[rustfmt::skip]
     extern "C" {
         pub fn rabbitsteel_read(book: *const u8, book_len: usize, first: *mut u64, second: *mut u64) -> u64;
-        pub fn rabbitsteel_order(book: *const u8, book_len: usize, first: *mut u64, second: *mut u64) -> u64;
+        pub fn rabbitsteel_order(
+            book: *const u8, book_len: usize, levels: *mut u8, levels_len: usize,
+            first: *mut u64, second: *mut u64, third: *mut u64,
+        ) -> u64;
         pub fn rabbitsteel_build(
             book: *const u8, book_len: usize, heads: *mut u16, heads_len: usize, moves: *mut u16, moves_len: usize,
-            first: *mut u64, second: *mut u64,
+            first: *mut u64, second: *mut u64, third: *mut u64,
         ) -> u64;
         pub fn rabbitsteel_ask(
             heads: *const u16, heads_len: usize, moves: *const u16, moves_len: usize,
@@ -22,13 +25,14 @@ mod c {
     }
 }
 
-/// What a call gives back: 0 or the number of the cause, and the numbers beside it. A question has one such number,
-/// 1 for yes and 0 for no; its second is 0 here.
+/// What a call gives back: 0 or the number of the cause, and the numbers beside it. The reader has two such numbers and
+/// a question one, 1 for yes and 0 for no; the others are 0 here.
 #[derive(Clone, Copy, Debug, PartialEq, Eq)]
 pub struct Reply {
     pub cause: u64,
     pub first: u64,
     pub second: u64,
+    pub third: u64,
 }
 
 impl Reply {
@@ -44,20 +48,28 @@ impl From<Refusal> for Reply {
             cause: refusal.cause as u64,
             first: refusal.value,
             second: 0,
+            third: 0,
+        }
+    }
+}
+
+impl From<Result<(u64, u64, u64), Refusal>> for Reply {
+    fn from(result: Result<(u64, u64, u64), Refusal>) -> Reply {
+        match result {
+            Ok((first, second, third)) => Reply {
+                cause: 0,
+                first,
+                second,
+                third,
+            },
+            Err(refusal) => refusal.into(),
         }
     }
 }
 
 impl From<Result<(u64, u64), Refusal>> for Reply {
     fn from(result: Result<(u64, u64), Refusal>) -> Reply {
-        match result {
-            Ok((first, second)) => Reply {
-                cause: 0,
-                first,
-                second,
-            },
-            Err(refusal) => refusal.into(),
-        }
+        result.map(|(first, second)| (first, second, 0)).into()
     }
 }
 
@@ -79,24 +91,36 @@ pub fn read(book: &[u8]) -> Reply {
         cause,
         first,
         second,
+        third: 0,
     }
 }
 
-/// Causes 1 to 8; accepted: the names and the rule count.
-pub fn order(book: &[u8]) -> Reply {
-    let (mut first, mut second) = (UNSET, UNSET);
-    // SAFETY: as in `read`.
-    let cause = unsafe { c::rabbitsteel_order(book.as_ptr(), book.len(), &mut first, &mut second) };
+/// Causes 1 to 8; accepted: the names, the rule count and the depth, and as many levels as are lent.
+pub fn order(book: &[u8], levels: &mut [u8]) -> Reply {
+    let (mut first, mut second, mut third) = (UNSET, UNSET, UNSET);
+    // SAFETY: as in `read`; the lent slice does not overlap the book.
+    let cause = unsafe {
+        c::rabbitsteel_order(
+            book.as_ptr(),
+            book.len(),
+            levels.as_mut_ptr(),
+            levels.len(),
+            &mut first,
+            &mut second,
+            &mut third,
+        )
+    };
     Reply {
         cause,
         first,
         second,
+        third,
     }
 }
 
-/// Causes 1 to 11; accepted: the states and the transitions, and the tables in the lent slices.
+/// Causes 1 to 11; accepted: the states, the transitions and the depth, and the tables in the lent slices.
 pub fn build(book: &[u8], heads: &mut [u16], moves: &mut [u16]) -> Reply {
-    let (mut first, mut second) = (UNSET, UNSET);
+    let (mut first, mut second, mut third) = (UNSET, UNSET, UNSET);
     // SAFETY: as in `read`; the lent slices do not overlap.
     let cause = unsafe {
         c::rabbitsteel_build(
@@ -108,12 +132,14 @@ pub fn build(book: &[u8], heads: &mut [u16], moves: &mut [u16]) -> Reply {
             moves.len(),
             &mut first,
             &mut second,
+            &mut third,
         )
     };
     Reply {
         cause,
         first,
         second,
+        third,
     }
 }
 
@@ -137,6 +163,7 @@ pub fn ask(heads: &[u16], moves: &[u16], role: u8, chain: &[u8]) -> Reply {
         cause,
         first,
         second: 0,
+        third: 0,
     }
 }
 
@@ -162,5 +189,6 @@ pub fn derived(book: &[u8], heads: &mut [u16], moves: &mut [u16], role: u8, chai
         cause,
         first,
         second: 0,
+        third: 0,
     }
 }

@@ -32,6 +32,13 @@ pub fn inverse((right, left): &Axiom) -> Axiom {
     (right ^ 1, left.iter().rev().map(|role| role ^ 1).collect())
 }
 
+/// A book in which each name but the first has one rule, with the name before it on the left: the level of a name is
+/// its number plus 1. Up to 44 names it is within the limits.
+pub fn ladder(names: u8) -> Vec<u8> {
+    let rules: Vec<_> = (1..names).map(|name| (2 * name, [2 * name - 2])).collect();
+    encode(names, &rules)
+}
+
 /// What a drawn book looks like.
 #[derive(Clone, Debug)]
 pub struct Style {

@@ -3,9 +3,11 @@
 #![forbid(unsafe_code)]
 
 use crate::archive::{self, Reply};
-use crate::plain;
+use crate::plain::book::Book;
+use crate::plain::{self, levels};
 use crate::random::Random;
 use std::collections::BTreeMap;
+use std::fmt::Display;
 use std::hint::black_box;
 
 const SEED: &str = "RABBITSTEEL_SEED";
@@ -128,15 +130,38 @@ impl Trial {
         self.tally("read", owed)
     }
 
-    /// Puts a book to the order check.
-    pub fn order(&mut self, book: &[u8]) -> Reply {
+    /// Puts a book to the order check, with so many levels lent between fences. Where it accepts, they are held to
+    /// their sentence as well.
+    pub fn order(&mut self, book: &[u8], lent: usize) -> Reply {
         let kept = book.to_vec();
-        let given = archive::order(book);
-        let owed = plain::order(book).into();
-        if given != owed || kept != black_box(book) {
-            self.fail("order", given, owed, &[("book", hex(&kept))]);
+        let noise = self.noise[..lent + 2 * FENCE].iter();
+        let mut given_levels: Vec<u8> = noise.map(|number| *number as u8).collect();
+        let mut owed_levels = given_levels.clone();
+        let given = archive::order(book, &mut given_levels[FENCE..FENCE + lent]);
+        let owed = plain::order(book, &mut owed_levels[FENCE..FENCE + lent]).into();
+        if given != owed || given_levels != owed_levels || kept != black_box(book) {
+            let mut input = vec![("book", hex(&kept)), ("levels lent", lent.to_string())];
+            input.extend(difference("levels", &given_levels, &owed_levels));
+            self.fail("order", given, owed, &input);
+        }
+        if owed.cause == 0 {
+            self.levels(book, &owed_levels[FENCE..FENCE + lent], owed.third);
         }
         self.tally("order", owed)
+    }
+
+    /// Holds the levels that were lent and the depth to their sentence.
+    fn levels(&mut self, book: &[u8], given: &[u8], depth: u64) {
+        let owed = levels::levels(&Book::read(book).expect("the book was accepted"));
+        let count = given.len().min(owed.len());
+        let highest = owed.iter().max().map(|&level| u64::from(level));
+        self.check(
+            given[..count] == owed[..count] && Some(depth) == highest,
+            "the levels are not those of their sentence",
+            &[("book", hex(book)), ("levels", hex(given))],
+        );
+        self.count("levels by their sentence", count as u64);
+        self.most("depth", depth);
     }
 
     /// Puts a book to the builder, with so many numbers lent; the tables where it accepts.
@@ -362,7 +387,11 @@ impl Call<'_> {
 }
 
 /// Where two lent slices first differ. Places before 0 and after the last are fences.
-fn difference(name: &'static str, given: &[u16], owed: &[u16]) -> Option<(&'static str, String)> {
+fn difference<T: Copy + PartialEq + Display>(
+    name: &'static str,
+    given: &[T],
+    owed: &[T],
+) -> Option<(&'static str, String)> {
     let place = given
         .iter()
         .zip(owed)

@@ -1,6 +1,6 @@
-//! Lent tables of every length from 0 to past what is needed.
+//! Lent tables and levels of every length from 0 to past what is needed.
 
-use outside::books::{encode, HALL};
+use outside::books::{encode, ladder, HALL};
 use outside::cases::lent;
 use outside::trial::{run, run_exactly};
 
@@ -31,6 +31,23 @@ fn every_length_of_largest() {
         |trial, random| {
             let book = lent::sized(random, 2048);
             lent::every_length(trial, &book);
+        },
+    );
+}
+
+#[test]
+fn every_number_of_levels() {
+    run(
+        "every_number_of_levels",
+        50,
+        lent::LEVELS,
+        |trial, random| {
+            lent::every_level(trial, HALL);
+            for names in [1, 2, 63, 64] {
+                lent::every_level(trial, &ladder(names));
+            }
+            let states = 2 * random.between(10, 400) as u64;
+            lent::every_level(trial, &lent::sized(random, states));
         },
     );
 }

@@ -1,7 +1,7 @@
 //! The program `engine` and `plain_engine` on inputs whose lines are written out here: the worked example, cut and
 //! refused questions, the longest one, questions over many blocks, small pieces, and books that are refused.
 
-use outside::books::{encode, longest, HALL};
+use outside::books::{encode, ladder, longest, HALL};
 use outside::programs::{engine, written, Way};
 use outside::random::Random;
 use std::path::PathBuf;
@@ -9,7 +9,7 @@ use std::path::PathBuf;
 const QUESTIONS: &[u8] =
     b"\x06\x04\0\0\0\x02\x04\x06\x03\0\x02\0\x04\x07\x03\0\x05\x03\x01\x06\0\0\x06\x01\0\x08";
 const LINES: [&str; 6] = [
-    "book 16 18\n",
+    "book 16 18 3\n",
     "0 yes\n",
     "1 no\n",
     "2 yes\n",
@@ -68,6 +68,21 @@ fn hall() {
         Way::File,
     );
     assert_eq!(each, LINES.concat());
+}
+
+/// The first line of accepted books: states, moves and depth.
+#[test]
+fn first_lines() {
+    let inverses = [(1, vec![2]), (0, vec![4]), (3, vec![5, 3])];
+    let books = [
+        (ladder(1), "2 1 1"),
+        (ladder(12), "156 210 12"),
+        (ladder(44), "1980 2882 44"),
+        (encode(3, &inverses), "14 15 3"),
+    ];
+    for (book, told) in books {
+        owed(Some(&book), &[], &format!("book {told}\n"));
+    }
 }
 
 #[test]
@@ -145,7 +160,7 @@ fn every_cut_of_a_long_question() {
         let given = written(&engine(), &[], Some(HALL), &input[..length], Way::File);
         assert_eq!(
             given,
-            format!("book 16 18\n0 yes\n{last}"),
+            format!("book 16 18 3\n0 yes\n{last}"),
             "{length} bytes"
         );
     }
@@ -159,16 +174,16 @@ fn longest_question() {
         let first = question(0, &vec![0; links]);
         let answer = if links == 0 { "refused 13" } else { "yes" };
         let input = [&first[..], &long, &question(6, &[6])].concat();
-        let lines = format!("book 16 18\n0 {answer}\n1 refused 13\n2 yes\n");
+        let lines = format!("book 16 18 3\n0 {answer}\n1 refused 13\n2 yes\n");
         owed(Some(HALL), &input, &lines);
     }
     let cut = |bytes: usize| &long[..bytes];
-    owed(Some(HALL), &long, "book 16 18\n0 refused 13\n");
+    owed(Some(HALL), &long, "book 16 18 3\n0 refused 13\n");
     for bytes in [1, 2, 3, 4, 4096, 65535, 65536, 65537] {
-        owed(Some(HALL), cut(bytes), "book 16 18\n0 cut\n");
+        owed(Some(HALL), cut(bytes), "book 16 18 3\n0 cut\n");
     }
     let input = [&long[..], &long, &long, cut(65537)].concat();
-    let lines = "book 16 18\n0 refused 13\n1 refused 13\n2 refused 13\n3 cut\n";
+    let lines = "book 16 18 3\n0 refused 13\n1 refused 13\n2 refused 13\n3 cut\n";
     owed(Some(HALL), &input, lines);
 }
 
@@ -189,7 +204,7 @@ fn refused_chains_are_read_past() {
     ] {
         let input = [&asked[..], &refused, &asked, &refused, &asked].concat();
         let lines =
-            format!("book 16 18\n0 yes\n1 refused {cause}\n2 yes\n3 refused {cause}\n4 yes\n");
+            format!("book 16 18 3\n0 yes\n1 refused {cause}\n2 yes\n3 refused {cause}\n4 yes\n");
         owed(Some(HALL), &input, &lines);
     }
 }
@@ -220,7 +235,7 @@ fn many_blocks() {
     for links in 0..24 {
         let mut random = Random::new(links as u64);
         let mut input = question(0, &vec![1; links]);
-        let mut lines = String::from("book 16 18\n");
+        let mut lines = String::from("book 16 18 3\n");
         lines += if links == 0 {
             "0 refused 13\n"
         } else {
@@ -241,7 +256,7 @@ fn many_blocks() {
 /// More questions than 16 bits can number, with more lines than a block holds.
 #[test]
 fn many_numbers() {
-    let mut lines = String::from("book 16 18\n");
+    let mut lines = String::from("book 16 18 3\n");
     for number in 0..70_000 {
         lines += &format!("{number} refused 13\n");
     }

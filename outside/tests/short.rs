@@ -1,15 +1,16 @@
 //! A short selection: document 01's own examples with the numbers that it gives, then a little of every other trial.
 
 use outside::archive::{self, Reply};
-use outside::books::{encode, fullest, longest, HALL};
+use outside::books::{encode, fullest, ladder, longest, HALL};
 use outside::cases::{books, damage, lent, tables};
 use outside::trial::run_exactly;
 
-fn accepted(first: u64, second: u64) -> Reply {
+fn accepted(first: u64, second: u64, third: u64) -> Reply {
     Reply {
         cause: 0,
         first,
         second,
+        third,
     }
 }
 
@@ -18,6 +19,7 @@ fn refused(cause: u64, value: u64) -> Reply {
         cause,
         first: value,
         second: 0,
+        third: 0,
     }
 }
 
@@ -32,22 +34,24 @@ const HALL_MOVES: [u16; 54] = [
 
 #[test]
 fn hall() {
-    assert_eq!(archive::read(HALL), accepted(4, 3));
-    assert_eq!(archive::order(HALL), accepted(4, 3));
+    assert_eq!(archive::read(HALL), accepted(4, 3, 0));
+    let mut levels = [99; 6];
+    assert_eq!(archive::order(HALL, &mut levels), accepted(4, 3, 3));
+    assert_eq!(levels, [1, 2, 1, 3, 99, 99]);
     let (mut heads, mut moves) = ([99; 6], [99; 60]);
     let reply = archive::build(HALL, &mut heads, &mut moves);
-    assert_eq!(reply, accepted(16, 18));
+    assert_eq!(reply, accepted(16, 18, 3));
     assert_eq!(heads, [0, 2, 6, 8, 99, 99]);
     assert_eq!(moves[..54], HALL_MOVES);
     assert_eq!(moves[54..], [99; 6]);
     let questions: [(u8, &[u8], Reply); 7] = [
-        (6, &[0, 0, 2, 4], accepted(1, 0)),
-        (6, &[2, 0, 4], accepted(0, 0)),
-        (7, &[5, 3, 1], accepted(1, 0)),
+        (6, &[0, 0, 2, 4], Reply::answered(true)),
+        (6, &[2, 0, 4], Reply::answered(false)),
+        (7, &[5, 3, 1], Reply::answered(true)),
         (6, &[], refused(13, 0)),
         (6, &[8], refused(14, 0)),
-        (6, &[6], accepted(1, 0)),
-        (2, &[0], accepted(0, 0)),
+        (6, &[6], Reply::answered(true)),
+        (2, &[0], Reply::answered(false)),
     ];
     for (role, chain, owed) in questions {
         let reply = archive::ask(&heads[..4], &moves[..54], role, chain);
@@ -69,7 +73,7 @@ fn worked_books() {
     const R: u8 = 0;
     const S: u8 = 2;
     let no_rule: &[(u8, Vec<u8>)] = &[];
-    let order = |names, rules: &[(u8, Vec<u8>)]| archive::order(&encode(names, rules));
+    let order = |names, rules: &[(u8, Vec<u8>)]| archive::order(&encode(names, rules), &mut []);
     assert_eq!(order(1, &[(R, vec![R])]), refused(8, 0));
     assert_eq!(order(2, &[(R, vec![S]), (S, vec![R])]), refused(8, 1));
     assert_eq!(
@@ -79,26 +83,41 @@ fn worked_books() {
     assert_eq!(order(2, &[(R, vec![R, S, R])]), refused(8, 0));
     assert_eq!(order(2, &[(R, vec![R, R ^ 1])]), refused(8, 0));
     assert_eq!(order(0, no_rule), refused(4, 0));
-    assert_eq!(order(2, &[(R, vec![S; 8])]), accepted(2, 1));
+    assert_eq!(order(2, &[(R, vec![S; 8])]), accepted(2, 1, 2));
     assert_eq!(order(2, &[(R, vec![S; 9])]), refused(5, 0));
     let (mut heads, mut moves) = ([99; 1], [99; 3]);
     let reply = archive::build(&encode(1, no_rule), &mut heads, &mut moves);
-    assert_eq!(reply, accepted(2, 1));
+    assert_eq!(reply, accepted(2, 1, 1));
     assert_eq!((heads, moves), ([0], [0, 0, 1]));
     let derived = |rules: &[(u8, Vec<u8>)], role, chain: &[u8]| {
         let book = encode(2, rules);
         archive::derived(&book, &mut [0; 2], &mut [0; 300], role, chain)
     };
     let symmetric = [(R, vec![R ^ 1]), (R, vec![S, R])];
-    assert_eq!(derived(&symmetric, R, &[R, S ^ 1]), accepted(1, 0));
+    assert_eq!(derived(&symmetric, R, &[R, S ^ 1]), Reply::answered(true));
     let exactly = [(R, vec![S, S ^ 1, S])];
-    assert_eq!(derived(&exactly, R, &[S]), accepted(0, 0));
+    assert_eq!(derived(&exactly, R, &[S]), Reply::answered(false));
     let form3 = [(S, vec![R, S])];
-    assert_eq!(derived(&form3, S, &[R, S]), accepted(1, 0));
-    assert_eq!(derived(&form3, S, &[S, R]), accepted(0, 0));
+    assert_eq!(derived(&form3, S, &[R, S]), Reply::answered(true));
+    assert_eq!(derived(&form3, S, &[S, R]), Reply::answered(false));
     let form2 = [(S, vec![S, R])];
-    assert_eq!(derived(&form2, S, &[R, S]), accepted(0, 0));
-    assert_eq!(derived(&form2, S, &[S, R]), accepted(1, 0));
+    assert_eq!(derived(&form2, S, &[R, S]), Reply::answered(false));
+    assert_eq!(derived(&form2, S, &[S, R]), Reply::answered(true));
+}
+
+/// Levels by hand: of the deepest book, and of names whose rules have their inverse on the right.
+#[test]
+fn levels() {
+    let mut levels = [0; 64];
+    let reply = archive::order(&ladder(64), &mut levels);
+    assert_eq!(reply, accepted(64, 63, 64));
+    assert!(levels.into_iter().eq(1..=64));
+    let reply = archive::build(&ladder(44), &mut [0; 44], &mut [0; 15360]);
+    assert_eq!(reply, accepted(1980, 2882, 44));
+    let inverses = encode(3, &[(1, vec![2]), (0, vec![4]), (3, vec![5, 3])]);
+    let mut levels = [0; 3];
+    assert_eq!(archive::order(&inverses, &mut levels), accepted(3, 3, 3));
+    assert_eq!(levels, [3, 2, 1]);
 }
 
 #[test]
@@ -140,6 +159,9 @@ fn a_little_of_lent_tables() {
         lent::every_pair(trial, HALL);
         let book = lent::sized(random, 100);
         lent::every_length(trial, &book);
+    });
+    run_exactly("every_level", 1, lent::LEVELS, |trial, _| {
+        lent::every_level(trial, HALL);
     });
 }
 

@@ -1,10 +1,11 @@
-//! The program `engine` beside `plain_engine` on books and questions from a seed: the same lines. Answers to short
-//! chains are held to membership without tables as well.
+//! The program `engine` beside `plain_engine` on books and questions from a seed: the same lines. The depth is held to
+//! its sentence, and answers to short chains to membership without tables as well.
 
 use outside::books::{careless, encode, Draft, Style, HALL};
 use outside::chains::{self, Replacements};
 use outside::plain::book::Book;
 use outside::plain::intervals::Intervals;
+use outside::plain::levels::levels;
 use outside::programs::{engine, written, Way};
 use outside::random::Random;
 use outside::trial::{hex, run, Met, Trial};
@@ -63,9 +64,17 @@ fn compare(trial: &mut Trial, book: &[u8], questions: &Stream, way: Way) -> Stri
     given
 }
 
-/// Holds the answers to short chains to the book's rules, without tables.
+/// Holds the depth and the answers to short chains to the book's rules, without tables.
 fn compare_with_rules(trial: &mut Trial, book: &[u8], questions: &Stream, lines: &str) {
     let Ok(read) = Book::read(book) else { return };
+    if !lines.starts_with("book refused") {
+        let first = lines.lines().next().unwrap_or_default();
+        let depth = levels(&read).into_iter().max().unwrap_or_default();
+        let same = first.ends_with(&format!(" {depth}"));
+        let input = [("book", hex(book)), ("line", first.to_string())];
+        trial.check(same, "the depth is not that of its sentence", &input);
+        trial.count("depths by their sentence", 1);
+    }
     let intervals = Intervals::new(&read);
     let answers = lines.lines().skip(1);
     for (number, (line, (role, chain))) in answers.zip(&questions.asked).enumerate() {
@@ -122,6 +131,7 @@ const STREAMS: &[Met] = &[
     Met::Counted("lines refused 14"),
     Met::Counted("lines cut"),
     Met::Counted("lines by intervals"),
+    Met::Counted("depths by their sentence"),
     Met::Counted("books refused"),
 ];
 

@@ -22,7 +22,7 @@ impl Tabled {
     pub fn new(book: &[u8]) -> Tabled {
         let (mut heads, mut moves) = (vec![0; 64], vec![0; 15360]);
         let built = plain::build(book, &mut heads, &mut moves);
-        let (_, transitions) = built.expect("the book is accepted");
+        let (_, transitions, _) = built.expect("the book is accepted");
         heads.truncate(usize::from(book[5]));
         moves.truncate(3 * transitions as usize);
         Tabled { heads, moves }

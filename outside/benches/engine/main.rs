@@ -11,7 +11,7 @@ mod report;
 use inputs::{Question, Tabled};
 use measure::interleaved;
 use outside::archive::{self, Reply};
-use outside::books::{fullest, longest, HALL};
+use outside::books::{fullest, ladder, longest, HALL};
 use outside::plain;
 use outside::random::Random;
 use report::{Report, Row};
@@ -58,10 +58,13 @@ fn books(report: &mut Report) {
         let plain = || plain::read(black_box(book)).into();
         pair(report, "read", name, archive, plain);
     }
-    for (name, book) in &books {
-        let archive = || archive::order(black_box(book));
-        let plain = || plain::order(black_box(book)).into();
+    let deepest = ("64 names in a ladder", ladder(64));
+    for (name, book) in books.iter().chain([&deepest]) {
+        let (mut levels, mut plain_levels) = ([0; 64], [0; 64]);
+        let archive = || archive::order(black_box(book), black_box(&mut levels));
+        let plain = || plain::order(black_box(book), black_box(&mut plain_levels)).into();
         pair(report, "order", name, archive, plain);
+        assert_eq!(levels, plain_levels, "{name}");
     }
     let built = [
         ("hall, 16 states".to_string(), HALL.to_vec()),

@@ -31,6 +31,7 @@ pub const VALID: &[Met] = &[
     Met::Refused("derived", 14),
     Met::Counted("questions by intervals"),
     Met::Counted("questions by rewriting"),
+    Met::Counted("levels by their sentence"),
 ];
 
 /// A book with an order and within the limits.
@@ -89,7 +90,11 @@ pub fn near_limit(trial: &mut Trial, random: &mut Random) {
     }
 }
 
-pub const OVER_LIMIT: &[Met] = &[Met::Accepted("order"), Met::Refused("build", 9)];
+pub const OVER_LIMIT: &[Met] = &[
+    Met::Accepted("order"),
+    Met::Refused("build", 9),
+    Met::Counted("levels by their sentence"),
+];
 
 /// A book far over the state limit, most often with many long rules.
 pub fn over_limit(trial: &mut Trial, random: &mut Random) {
@@ -154,11 +159,13 @@ pub fn any_rules(trial: &mut Trial, random: &mut Random) {
     questions(trial, random, &draft, &tables, 3);
 }
 
-/// Reads, checks and builds a book, with tables lent that are long enough, a little too short or empty. What is wrong
-/// with a book comes before what is wrong with the tables, and that before what is wrong with a question.
+/// Reads, checks and builds a book, with levels lent for all names and with fewer or more, and with tables lent that are
+/// long enough, a little too short or empty. What is wrong with a book comes before what is wrong with the tables, and
+/// that before what is wrong with a question.
 fn everything(trial: &mut Trial, random: &mut Random, book: &[u8]) -> Option<Tables> {
     trial.read(book);
-    trial.order(book);
+    trial.order(book, 64);
+    trial.order(book, random.between(0, 70));
     trial.build(book, 0, 0);
     trial.build(book, 0, 15360);
     trial.derived(book, 64, 0, 255, &[]);

@@ -33,7 +33,7 @@ pub const LENGTHS: &[Met] = &[
 /// Puts bytes to all four calls that take a book, with a short question.
 pub fn any_book(trial: &mut Trial, random: &mut Random, book: &[u8]) {
     trial.read(book);
-    let ordered = trial.order(book).cause == 0;
+    let ordered = trial.order(book, random.pick(&[0, 5, 64, 70])).cause == 0;
     let moves = if ordered { 15360 } else { 100 };
     trial.build(book, 64, moves);
     trial.build(book, 0, 0);

@@ -1,4 +1,4 @@
-//! Cases with lent tables of every length.
+//! Cases with lent tables and levels of every length.
 
 use crate::books::{Draft, Style};
 use crate::random::Random;
@@ -12,6 +12,24 @@ pub const LENGTHS: &[Met] = &[
     Met::Yes("derived"),
     Met::Refused("derived", 11),
 ];
+
+pub const LEVELS: &[Met] = &[
+    Met::Accepted("order"),
+    Met::Refused("order", 8),
+    Met::Counted("levels by their sentence"),
+];
+
+/// Every number of levels, for a book and for it with one more rule that leaves it without an order.
+pub fn every_level(trial: &mut Trial, book: &[u8]) {
+    let mut without = book.to_vec();
+    let rules = u16::from_le_bytes([book[6], book[7]]) + 1;
+    without[6..8].copy_from_slice(&rules.to_le_bytes());
+    without.extend([0, 1, 0]);
+    for levels in 0..=70 {
+        trial.order(book, levels);
+        trial.order(&without, levels);
+    }
+}
 
 /// Every number of heads with every number of moves up to a few past what the book needs.
 pub fn every_pair(trial: &mut Trial, book: &[u8]) {

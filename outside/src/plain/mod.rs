@@ -1,10 +1,12 @@
 //! The engine of document 01 in plain Rust, without proofs. The five calls have the interface of the archive's
-//! C functions; beside them stand two other ways to decide membership, from the completed rules alone.
+//! C functions; beside them stand two other ways to decide membership, from the completed rules alone, and another way
+//! to find the levels.
 #![forbid(unsafe_code)]
 
 pub mod book;
 pub mod completion;
 pub mod intervals;
+pub mod levels;
 pub mod order;
 pub mod paths;
 pub mod program;
@@ -30,11 +32,19 @@ pub fn read(book: &[u8]) -> Result<(u64, u64), Refusal> {
     Ok((book.names() as u64, book.rules() as u64))
 }
 
-/// The names and the rule count of a well-formed book with a regular order, or the refusal (causes 1 to 8).
-pub fn order(book: &[u8]) -> Result<(u64, u64), Refusal> {
+/// The names, the rule count and the depth of a well-formed book with a regular order, or the refusal (causes 1 to 8).
+/// Levels are written from the first name on, as many as are lent; a refusal leaves the slice as it was, and bytes after
+/// the levels keep their values.
+pub fn order(book: &[u8], levels: &mut [u8]) -> Result<(u64, u64, u64), Refusal> {
     let book = Book::read(book)?;
-    order::check(&book)?;
-    Ok((book.names() as u64, book.rules() as u64))
+    let found = order::check(&book)?;
+    let lent = levels.len().min(book.names());
+    levels[..lent].copy_from_slice(&found.levels()[..lent]);
+    Ok((
+        book.names() as u64,
+        book.rules() as u64,
+        found.depth() as u64,
+    ))
 }
 
 /// Builds the tables of a book into the lent slices and asks them: causes 1 to 11, then 13 and 14, each of which leaves
@@ -46,7 +56,8 @@ pub fn derived(
     role: u8,
     chain: &[u8],
 ) -> Result<bool, Refusal> {
-    let (_, transitions) = build_if(book, heads, moves, |names| check_chain(names, role, chain))?;
+    let (_, transitions, _) =
+        build_if(book, heads, moves, |names| check_chain(names, role, chain))?;
     let names = usize::from(book[book::NAMES]);
     ask(
         &heads[..names],

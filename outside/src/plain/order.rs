@@ -1,4 +1,4 @@
-//! The order check: the form of each rule, and cause 8.
+//! The order check: the form of each rule, cause 8, and the levels of the names.
 
 use super::book::{Book, Rule, MAX_NAMES};
 use super::refusal::{Cause, Refusal};
@@ -37,9 +37,71 @@ impl Form {
     }
 }
 
-/// Cause 8. A role is below another exactly when its inverse is below the other's inverse, so an order on roles
-/// exists exactly when one on names does: a rule breaks it when its right name is below one of its inner names.
-pub fn check(book: &Book) -> Result<(), Refusal> {
+/// The levels of a book's names: 1 where a name's rules have no inner role, else 1 more than the highest level among
+/// the inner names, which is the longest way down. A name and its inverse have one level.
+pub struct Levels {
+    levels: [u8; MAX_NAMES],
+    names: usize,
+    depth: usize,
+}
+
+impl Levels {
+    /// The levels of names that are given with the names below each. A walk in rising order of how many are below meets
+    /// all names below a name before it.
+    fn of(below: &[u64]) -> Levels {
+        let mut levels = [0; MAX_NAMES];
+        // The names met so far, by level; those up to the depth are in use.
+        let mut met = [0u64; MAX_NAMES];
+        let mut depth = 0;
+        for &name in &rising(below)[..below.len()] {
+            let name = usize::from(name);
+            let highest = met[..depth].iter().rposition(|met| met & below[name] != 0);
+            let level = highest.map_or(1, |highest| highest + 2);
+            met[level - 1] |= 1 << name;
+            levels[name] = level as u8;
+            depth = depth.max(level);
+        }
+        Levels {
+            levels,
+            names: below.len(),
+            depth,
+        }
+    }
+
+    /// One level to a name.
+    pub fn levels(&self) -> &[u8] {
+        &self.levels[..self.names]
+    }
+
+    /// The highest level.
+    pub fn depth(&self) -> usize {
+        self.depth
+    }
+}
+
+/// The names in rising order of how many are below them: each comes after all that are below it.
+fn rising(below: &[u64]) -> [u8; MAX_NAMES] {
+    let count = |below: u64| below.count_ones() as usize;
+    // Where the names with so many below them start; a name has at most all others below it.
+    let mut start = [0u8; MAX_NAMES + 1];
+    for &below in below {
+        start[count(below) + 1] += 1;
+    }
+    for place in 1..below.len() {
+        start[place] += start[place - 1];
+    }
+    let mut row = [0; MAX_NAMES];
+    for (name, &below) in below.iter().enumerate() {
+        let place = &mut start[count(below)];
+        row[usize::from(*place)] = name as u8;
+        *place += 1;
+    }
+    row
+}
+
+/// Cause 8, or the levels. A role is below another exactly when its inverse is below the other's inverse, so an order on
+/// roles exists exactly when one on names does: a rule breaks it when its right name is below one of its inner names.
+pub fn check(book: &Book) -> Result<Levels, Refusal> {
     // The names below each name, closed under transitivity.
     let mut below = [0u64; MAX_NAMES];
     let below = &mut below[..book.names()];
@@ -63,5 +125,5 @@ pub fn check(book: &Book) -> Result<(), Refusal> {
             }
         }
     }
-    Ok(())
+    Ok(Levels::of(below))
 }

@@ -22,13 +22,13 @@ pub fn run(
 ) -> io::Result<()> {
     let mut heads = [0; book::MAX_NAMES];
     let mut moves = vec![0; 3 * MAX_TRANSITIONS];
-    let (states, transitions) = match build(book, &mut heads, &mut moves) {
+    let (states, transitions, depth) = match build(book, &mut heads, &mut moves) {
         Ok(counts) => counts,
         Err(Refusal { cause, value }) => {
             return writeln!(output, "book refused {} {value}", cause as u64)
         }
     };
-    writeln!(output, "book {states} {transitions}")?;
+    writeln!(output, "book {states} {transitions} {depth}")?;
     let heads = &heads[..usize::from(book[book::NAMES])];
     let moves = &moves[..3 * transitions as usize];
     let mut indexed = Indexed::new(heads, moves).expect("a book's tables can be asked");

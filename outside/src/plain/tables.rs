@@ -228,9 +228,13 @@ impl Writer<'_, '_> {
     }
 }
 
-/// Builds the tables of a book into the lent slices: the numbers of states and transitions, or the refusal
+/// Builds the tables of a book into the lent slices: the numbers of states and transitions and the depth, or the refusal
 /// (causes 1 to 11), which leaves the slices as they were. Numbers after the tables keep their values.
-pub fn build(book: &[u8], heads: &mut [u16], moves: &mut [u16]) -> Result<(u64, u64), Refusal> {
+pub fn build(
+    book: &[u8],
+    heads: &mut [u16],
+    moves: &mut [u16],
+) -> Result<(u64, u64, u64), Refusal> {
     build_if(book, heads, moves, |_| Ok(()))
 }
 
@@ -240,9 +244,9 @@ pub fn build_if(
     heads: &mut [u16],
     moves: &mut [u16],
     check: impl FnOnce(usize) -> Result<(), Refusal>,
-) -> Result<(u64, u64), Refusal> {
+) -> Result<(u64, u64, u64), Refusal> {
     let book = Book::read(book)?;
-    order::check(&book)?;
+    let depth = order::check(&book)?.depth();
     let mut fragments = Fragments::new(&book);
     let (states, transitions) = fragments.measure_all(book.names());
     if states as usize > MAX_STATES {
@@ -264,5 +268,5 @@ pub fn build_if(
     for (name, head) in heads.iter_mut().enumerate().take(book.names()) {
         *head = writer.fragment(2 * name as u8);
     }
-    Ok((u64::from(states), u64::from(transitions)))
+    Ok((u64::from(states), u64::from(transitions), depth as u64))
 }

@@ -7,7 +7,9 @@ use super::query::Indexed;
 use super::rewriting::Rewriting;
 use super::tables::{MAX_STATES, MAX_TRANSITIONS};
 use super::*;
-use crate::books::{encode, HALL};
+use crate::books::{careless, encode, ladder, Draft, Style, HALL};
+use crate::random::Random;
+use std::fmt::Debug;
 
 const PART: u8 = 0;
 const SITS: u8 = 2;
@@ -23,9 +25,25 @@ fn inv(role: u8) -> u8 {
 }
 
 /// The number of the cause and the value beside it.
-fn refusal(result: Result<(u64, u64), Refusal>) -> (u64, u64) {
+fn refusal<T: Debug>(result: Result<T, Refusal>) -> (u64, u64) {
     let Refusal { cause, value } = result.expect_err("it is accepted");
     (cause as u64, value)
+}
+
+/// The order check with more levels lent than there are names: what it says, and the levels. They are those of their
+/// sentence, and the depth is the highest.
+fn ordered(book: &[u8]) -> Result<(u64, u64, u64, Vec<u8>), Refusal> {
+    let mut lent = [99; 70];
+    let (names, rules, depth) =
+        order(book, &mut lent).inspect_err(|_| assert_eq!(lent, [99; 70]))?;
+    let (levels, rest) = lent.split_at(names as usize);
+    assert_eq!(levels, levels::levels(&Book::read(book).unwrap()));
+    assert_eq!(
+        levels.iter().max().map(|&level| u64::from(level)),
+        Some(depth)
+    );
+    assert!(rest.iter().all(|&byte| byte == 99));
+    Ok((names, rules, depth, levels.to_vec()))
 }
 
 struct Tables {
@@ -37,7 +55,7 @@ struct Tables {
 fn tables(book: &[u8]) -> Tables {
     let mut heads = vec![7; 64];
     let mut moves = vec![7; 3 * MAX_TRANSITIONS];
-    let (_, transitions) = build(book, &mut heads, &mut moves).unwrap();
+    let (_, transitions, _) = build(book, &mut heads, &mut moves).unwrap();
     heads.truncate(usize::from(book[5]));
     moves.truncate(3 * transitions as usize);
     Tables { heads, moves }
@@ -72,7 +90,7 @@ fn refused(heads: &[u16], moves: &[u16], role: u8, chain: &[u8]) -> u64 {
 #[test]
 fn hall_tables() {
     assert_eq!(read(HALL), Ok((4, 3)));
-    assert_eq!(order(HALL), Ok((4, 3)));
+    assert_eq!(ordered(HALL), Ok((4, 3, 3, vec![1, 2, 1, 3])));
     let Tables { heads, moves } = tables(HALL);
     assert_eq!(heads, [0, 2, 6, 8]);
     let by_hand = [
@@ -115,7 +133,7 @@ fn hall_questions() {
 fn hall_program() {
     let questions = b"\x06\x04\x00\x00\x00\x02\x04\x06\x03\x00\x02\x00\x04\x07\x03\x00\x05\x03\x01\x06\x00\x00\x06\x01\x00\x08";
     let lines = [
-        "book 16 18\n",
+        "book 16 18 3\n",
         "0 yes\n",
         "1 no\n",
         "2 yes\n",
@@ -156,23 +174,24 @@ fn program_refusals() {
     questions.extend([DUE; 65534]);
     assert_eq!(
         written(HALL, &questions),
-        "book 16 18\n0 refused 13\n1 yes\n2 cut\n"
+        "book 16 18 3\n0 refused 13\n1 yes\n2 cut\n"
     );
     questions.push(DUE);
     assert_eq!(
         written(HALL, &questions),
-        "book 16 18\n0 refused 13\n1 yes\n2 refused 13\n"
+        "book 16 18 3\n0 refused 13\n1 yes\n2 refused 13\n"
     );
 }
 
 #[test]
 fn starred_books() {
-    assert_eq!(refusal(order(&encode(1, &[(R, [R])]))), (8, 0));
-    assert_eq!(refusal(order(&encode(2, &[(R, [S]), (S, [R])]))), (8, 1));
+    assert_eq!(refusal(ordered(&encode(1, &[(R, [R])]))), (8, 0));
+    assert_eq!(refusal(ordered(&encode(2, &[(R, [S]), (S, [R])]))), (8, 1));
     let symmetric = encode(1, &[(R, [inv(R)]), (inv(R), [R])]);
     assert_eq!(refusal(read(&symmetric)), (7, 1));
     let empty = encode(1, &[] as &[(u8, [u8; 0])]);
-    assert_eq!(build(&empty, &mut [0], &mut [0; 3]), Ok((2, 1)));
+    assert_eq!(build(&empty, &mut [0], &mut [0; 3]), Ok((2, 1, 1)));
+    assert_eq!(ordered(&empty), Ok((1, 0, 1, vec![1])));
     assert_eq!(refusal(read(&encode(0, &[] as &[(u8, [u8; 0])]))), (4, 0));
 }
 
@@ -187,7 +206,9 @@ fn headers() {
     let mut long = encode(64, &rules);
     assert_eq!(long.len(), 2568);
     assert_eq!(read(&long), Ok((64, 256)));
-    assert_eq!(order(&long), Ok((64, 256)));
+    let mut levels = vec![1; 64];
+    levels[0] = 2;
+    assert_eq!(ordered(&long), Ok((64, 256, 2, levels)));
     long.push(0);
     assert_eq!(refusal(read(&long)), (1, 0));
     let changed = |at: usize, byte: u8| {
@@ -280,7 +301,7 @@ fn left_sides() {
 
 #[test]
 fn forms_without_order() {
-    let order_of = |rules: &[(u8, &[u8])]| order(&encode(3, rules));
+    let order_of = |rules: &[(u8, &[u8])]| order(&encode(3, rules), &mut []);
     let t = 4;
     for left in [
         &[R][..],
@@ -300,19 +321,21 @@ fn forms_without_order() {
         let inverse = completion::inverse(left);
         assert_eq!(refusal(order_of(&[(S, &[t]), (inv(R), &inverse)])), (8, 1));
     }
-    for left in [
-        &[S][..],
-        &[inv(S), S],
-        &[R, S],
-        &[S, R],
-        &[R, S, S],
-        &[S, t, R],
-        &[R, R],
-        &[inv(R)],
+    for (left, depth) in [
+        (&[S][..], 3),
+        (&[inv(S), S], 3),
+        (&[R, S], 3),
+        (&[S, R], 3),
+        (&[R, S, S], 3),
+        (&[S, t, R], 3),
+        (&[t, inv(t), R], 2),
+        (&[R, R], 2),
+        (&[inv(R)], 2),
     ] {
-        assert_eq!(order_of(&[(S, &[t]), (R, left)]), Ok((3, 2)));
+        assert_eq!(order_of(&[(S, &[t]), (R, left)]), Ok((3, 2, depth)));
         let inverse = completion::inverse(left);
-        assert_eq!(order_of(&[(S, &[t]), (inv(R), &inverse)]), Ok((3, 2)));
+        let inverse = [(S, &[t][..]), (inv(R), &inverse)];
+        assert_eq!(order_of(&inverse), Ok((3, 2, depth)));
     }
     let long_circle = [
         (S, &[R][..]),
@@ -390,8 +413,8 @@ fn state_limit() {
     let mut heads = [5; 2];
     let mut moves = [5; 3 * MAX_TRANSITIONS];
     let largest = sized(MAX_STATES);
-    let (states, transitions) = build(&largest, &mut heads, &mut moves).unwrap();
-    assert_eq!(states, 2048);
+    let (states, transitions, depth) = build(&largest, &mut heads, &mut moves).unwrap();
+    assert_eq!((states, depth), (2048, 2));
     assert_eq!(heads, [0, 2046]);
     assert_eq!(moves[3 * transitions as usize - 3..][..3], [2046, 2, 2047]);
     let (mut heads, mut moves) = ([5; 2], [5; 3 * MAX_TRANSITIONS]);
@@ -400,10 +423,71 @@ fn state_limit() {
     assert_eq!((heads, moves), ([5; 2], [5; 3 * MAX_TRANSITIONS]));
     // Sizes far beyond any number type: each name has eight of the one below.
     let tower: Vec<_> = (1..64).map(|name| (2 * name, [2 * name - 2; 8])).collect();
-    assert_eq!(
-        refusal(build(&encode(64, &tower), &mut [], &mut [])),
-        (9, 0)
-    );
+    let tower = encode(64, &tower);
+    assert_eq!(refusal(build(&tower, &mut [], &mut [])), (9, 0));
+    assert_eq!(ordered(&tower), Ok((64, 63, 64, (1..=64).collect())));
+}
+
+#[test]
+fn levels_of_names() {
+    // The highest inner name of all rules of a name and of its inverse decides, and no shorter way down.
+    let t = 4;
+    let levels_of = |rules: &[(u8, Vec<u8>)]| ordered(&encode(4, rules)).unwrap().3;
+    let by_both = [(S, vec![t]), (R, vec![t]), (inv(R), vec![inv(S), t])];
+    assert_eq!(levels_of(&by_both), [3, 2, 1, 1]);
+    let by_both = [(inv(R), vec![S]), (R, vec![t]), (inv(S), vec![inv(t)])];
+    assert_eq!(levels_of(&by_both), [3, 2, 1, 1]);
+    // Rules without an inner role leave a name at level 1; its own role is no inner one.
+    let own = [(R, vec![R, R]), (R, vec![inv(R)]), (S, vec![S, R])];
+    assert_eq!(levels_of(&own), [1, 2, 1, 1]);
+    // Rules that come after what stands on them: 6 above 0 above 2 above 4.
+    let late = [(6, vec![R]), (R, vec![S]), (S, vec![t])];
+    assert_eq!(levels_of(&late), [3, 2, 1, 4]);
+    // Of several inner names the highest counts, wherever it stands.
+    let wide = [(6, vec![t, R, t]), (6, vec![t]), (R, vec![t])];
+    assert_eq!(levels_of(&wide), [2, 1, 1, 3]);
+}
+
+#[test]
+fn deepest_book() {
+    let levels: Vec<u8> = (1..=64).collect();
+    assert_eq!(ordered(&ladder(64)), Ok((64, 63, 64, levels.clone())));
+    // Lent short, the first levels are written.
+    for lent in 0..=66 {
+        let mut given = vec![99; lent];
+        assert_eq!(order(&ladder(64), &mut given), Ok((64, 63, 64)));
+        let mut owed = levels.clone();
+        owed.resize(66, 99);
+        assert_eq!(given, owed[..lent]);
+    }
+    // The copies of a name have two states more than those of the name before it: 44 names have 1,980 states.
+    let (mut heads, mut moves) = ([0; 64], [0; 3 * MAX_TRANSITIONS]);
+    let built = build(&ladder(44), &mut heads, &mut moves);
+    assert_eq!(built, Ok((1980, 2882, 44)));
+    assert_eq!(refusal(build(&ladder(45), &mut heads, &mut moves)), (9, 0));
+}
+
+#[test]
+fn levels_by_their_sentence() {
+    let (mut with_order, mut deepest) = (0, 0);
+    for seed in 0..4000 {
+        let random = &mut Random::new(seed);
+        let (names, rules) = match seed % 2 {
+            0 => careless(random),
+            _ => {
+                let style = Style {
+                    states: u64::MAX,
+                    ..Style::draw(random)
+                };
+                (style.names, Draft::draw(random, &style).rules)
+            }
+        };
+        if let Ok((.., depth, _)) = ordered(&encode(names as u8, &rules)) {
+            with_order += 1;
+            deepest = deepest.max(depth);
+        }
+    }
+    assert!(with_order > 2000 && deepest > 16, "{with_order} {deepest}");
 }
 
 #[test]
@@ -416,7 +500,7 @@ fn lent_tables() {
                 assert_eq!(refusal(result), (11, 0));
                 assert!(heads.iter().chain(&moves).all(|&number| number == 9));
             } else {
-                assert_eq!(result, Ok((16, 18)));
+                assert_eq!(result, Ok((16, 18, 3)));
                 assert!(heads[4..]
                     .iter()
                     .chain(&moves[54..])
