@@ -1,6 +1,7 @@
 /*
- * The worked example: builds the tables of the hall book, asks it five questions and prints the
- * lines that the program engine writes for them. Then it shows a book that is refused.
+ * The worked example: prints the levels of the hall book's names, builds its tables, asks it five
+ * questions and prints the lines that the program engine writes for them. Then it shows a book that
+ * is refused.
  */
 #include <inttypes.h>
 #include <stdio.h>
@@ -46,7 +47,8 @@ static const struct question questions[] = {
     {DUE, 1, {UNKNOWN}}
 };
 
-/* Memory that suffices for the tables of every book. */
+/* Memory that suffices for the levels and the tables of every book. */
+static uint8_t levels[RABBITSTEEL_NAMES_MAX];
 static uint16_t heads[RABBITSTEEL_NAMES_MAX];
 static uint16_t moves[RABBITSTEEL_MOVES_LEN];
 
@@ -57,6 +59,15 @@ static void print_refusal(uint64_t cause, uint64_t value)
     printf("refused %" PRIu64 ": %s", cause, rabbitsteel_words(cause));
     if (cause >= RABBITSTEEL_CAUSE_MALFORMED && cause <= RABBITSTEEL_CAUSE_NO_ORDER)
         printf("; rule %" PRIu64, value);
+    printf("\n");
+}
+
+/* Prints the levels of so many names. */
+static void print_levels(size_t names)
+{
+    printf("levels");
+    for (size_t name = 0; name < names; name++)
+        printf(" %u", levels[name]);
     printf("\n");
 }
 
@@ -74,23 +85,25 @@ static void print_answer(size_t number, size_t heads_len, size_t moves_len,
         printf("%zu refused %" PRIu64 "\n", number, cause);
 }
 
-/* Builds the tables of a book, prints its line and asks the questions. */
+/* Finds the levels of a book and builds its tables, prints both and asks the questions. */
 static void ask_all(const uint8_t *book, size_t length)
 {
-    uint64_t names, rules, states, count;
-    uint64_t cause = rabbitsteel_read(book, length, &names, &rules);
+    uint64_t names, rules, states, count, depth;
+    uint64_t cause = rabbitsteel_order(book, length, levels, RABBITSTEEL_NAMES_MAX, &names, &rules,
+                                       &depth);
 
     if (cause != RABBITSTEEL_ACCEPTED) {
         print_refusal(cause, names);
         return;
     }
+    print_levels((size_t)names);
     cause = rabbitsteel_build(book, length, heads, RABBITSTEEL_NAMES_MAX, moves,
-                              RABBITSTEEL_MOVES_LEN, &states, &count);
+                              RABBITSTEEL_MOVES_LEN, &states, &count, &depth);
     if (cause != RABBITSTEEL_ACCEPTED) {
         print_refusal(cause, states);
         return;
     }
-    printf("book %" PRIu64 " %" PRIu64 "\n", states, count);
+    printf("book %" PRIu64 " %" PRIu64 " %" PRIu64 "\n", states, count, depth);
     /* The question is lent what the build wrote: a head to a name, three numbers to a move. */
     for (size_t i = 0; i < sizeof questions / sizeof questions[0]; i++)
         print_answer(i, (size_t)names, 3 * (size_t)count, &questions[i]);

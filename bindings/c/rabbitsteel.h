@@ -26,9 +26,10 @@
 extern "C" {
 #endif
 
-/* The largest sizes. Buffers of NAMES_MAX heads and MOVES_LEN moves suffice for every book. */
+/* The largest sizes. Buffers of NAMES_MAX levels, NAMES_MAX heads and MOVES_LEN moves suffice for
+   every book. */
 #define RABBITSTEEL_BOOK_MAX 2568   /* bytes of a book */
-#define RABBITSTEEL_NAMES_MAX 64    /* names of a book, and heads of its tables */
+#define RABBITSTEEL_NAMES_MAX 64    /* names of a book, their levels, and heads of its tables */
 #define RABBITSTEEL_RULES_MAX 256   /* rules of a book */
 #define RABBITSTEEL_STATES_MAX 2048 /* states of its tables */
 #define RABBITSTEEL_MOVES_MAX 5120  /* moves of its tables */
@@ -104,21 +105,31 @@ static inline const char *rabbitsteel_words(uint64_t cause)
 uint64_t rabbitsteel_read(const uint8_t *book, size_t book_len, uint64_t *first, uint64_t *second);
 
 /*
- * Reads a book and checks that its rules have a regular order: causes 1 to 8.
- * It stores what rabbitsteel_read stores.
+ * Reads a book, checks that its rules have a regular order and gives the levels: causes 1 to 8.
+ * The level of a name, and of its inverse, is 1 where none of its rules has an inner role, else 1
+ * more than the highest level among its rules' inner names: 1 to 64. The depth of a book is the
+ * highest level. A book whose tables would be too large has levels too.
+ * Accepted: *first is the number of names, *second the number of rules, *third the depth. The first
+ * levels, one to a name, are written, as many as are lent: levels_len may be less than the names,
+ * also 0. The bytes after them keep their values.
+ * Refused: *first is the value beside the cause, *second and *third are 0; levels are unchanged.
+ * RABBITSTEEL_NAMES_MAX levels suffice for every book.
  */
-uint64_t rabbitsteel_order(const uint8_t *book, size_t book_len, uint64_t *first, uint64_t *second);
+uint64_t rabbitsteel_order(const uint8_t *book, size_t book_len, uint8_t *levels, size_t levels_len,
+                           uint64_t *first, uint64_t *second, uint64_t *third);
 
 /*
  * Builds the tables of a book: causes 1 to 11.
- * Accepted: *first is the number of states, *second the number of moves. The first heads, one to a
- * name, and the first 3 * *second numbers of moves are written; the numbers after them keep their
- * values and are no part of the tables.
- * Refused: *first is the value beside the cause, *second is 0; heads and moves are unchanged.
+ * Accepted: *first is the number of states, *second the number of moves, *third the depth. The
+ * first heads, one to a name, and the first 3 * *second numbers of moves are written; the numbers
+ * after them keep their values and are no part of the tables.
+ * Refused: *first is the value beside the cause, *second and *third are 0; heads and moves are
+ * unchanged.
  * RABBITSTEEL_NAMES_MAX heads and RABBITSTEEL_MOVES_LEN moves suffice for every book.
  */
 uint64_t rabbitsteel_build(const uint8_t *book, size_t book_len, uint16_t *heads, size_t heads_len,
-                           uint16_t *moves, size_t moves_len, uint64_t *first, uint64_t *second);
+                           uint16_t *moves, size_t moves_len, uint64_t *first, uint64_t *second,
+                           uint64_t *third);
 
 /*
  * Asks tables whether the chain is derived from the role: causes 12 to 14.

@@ -15,10 +15,10 @@
 /* The functions with the types that the archive has. Another type in the header is an error here. */
 static uint64_t (*const call_read)(const uint8_t *, size_t, uint64_t *,
                                    uint64_t *) = rabbitsteel_read;
-static uint64_t (*const call_order)(const uint8_t *, size_t, uint64_t *,
-                                    uint64_t *) = rabbitsteel_order;
+static uint64_t (*const call_order)(const uint8_t *, size_t, uint8_t *, size_t, uint64_t *,
+                                    uint64_t *, uint64_t *) = rabbitsteel_order;
 static uint64_t (*const call_build)(const uint8_t *, size_t, uint16_t *, size_t, uint16_t *, size_t,
-                                    uint64_t *, uint64_t *) = rabbitsteel_build;
+                                    uint64_t *, uint64_t *, uint64_t *) = rabbitsteel_build;
 static uint64_t (*const call_ask)(const uint16_t *, size_t, const uint16_t *, size_t, uint8_t,
                                   const uint8_t *, size_t, uint64_t *) = rabbitsteel_ask;
 static uint64_t (*const call_derived)(const uint8_t *, size_t, uint16_t *, size_t, uint16_t *,
@@ -29,9 +29,10 @@ static const char *(*const call_words)(uint64_t) = rabbitsteel_words;
 /* The same as they stand in the header: two parameters of one type are told apart by name alone. */
 static const char *const prototypes[] = {
     "uint64_t rabbitsteel_read(const uint8_t *book, size_t book_len, uint64_t *first, uint64_t *second);",
-    "uint64_t rabbitsteel_order(const uint8_t *book, size_t book_len, uint64_t *first, uint64_t *second);",
+    "uint64_t rabbitsteel_order(const uint8_t *book, size_t book_len, uint8_t *levels, size_t levels_len, "
+    "uint64_t *first, uint64_t *second, uint64_t *third);",
     "uint64_t rabbitsteel_build(const uint8_t *book, size_t book_len, uint16_t *heads, size_t heads_len, "
-    "uint16_t *moves, size_t moves_len, uint64_t *first, uint64_t *second);",
+    "uint16_t *moves, size_t moves_len, uint64_t *first, uint64_t *second, uint64_t *third);",
     "uint64_t rabbitsteel_ask(const uint16_t *heads, size_t heads_len, const uint16_t *moves, "
     "size_t moves_len, uint8_t role, const uint8_t *chain, size_t chain_len, uint64_t *answer);",
     "uint64_t rabbitsteel_derived(const uint8_t *book, size_t book_len, uint16_t *heads, "
@@ -147,22 +148,28 @@ static const uint16_t hall_moves[54] = {
 /* What stands in memory before a call, and around what is lent. No call stores it. */
 #define UNSET UINT64_C(0xA5A5A5A5A5A5A5A5)
 #define NOISE(place) ((uint16_t)(0x8000u + (place)))
+#define NOISE_BYTE(place) ((uint8_t)(0x80u + (place)))
 
-enum { FENCE = 8, HEADS = 70, MOVES = 15366 };
+enum { FENCE = 8, LEVELS = 70, HEADS = 70, MOVES = 15366 };
 
-/* Numbers and tables lent to a call, each with a fence before and after it. */
-static uint64_t numbers[5];
+/* Numbers, levels and tables lent to a call, each with a fence before and after it. */
+static uint64_t numbers[7];
+static uint8_t levels[FENCE + LEVELS + FENCE];
 static uint16_t heads[FENCE + HEADS + FENCE];
 static uint16_t moves[FENCE + MOVES + FENCE];
 static uint64_t *const first = numbers + 1;
 static uint64_t *const second = numbers + 3;
+static uint64_t *const third = numbers + 5;
+static uint8_t *const lent_levels = levels + FENCE;
 static uint16_t *const lent_heads = heads + FENCE;
 static uint16_t *const lent_moves = moves + FENCE;
 
 static void clear(void)
 {
-    for (size_t i = 0; i < 5; i++)
+    for (size_t i = 0; i < sizeof numbers / sizeof numbers[0]; i++)
         numbers[i] = UNSET;
+    for (size_t i = 0; i < sizeof levels; i++)
+        levels[i] = NOISE_BYTE(i);
     for (size_t i = 0; i < sizeof heads / sizeof heads[0]; i++)
         heads[i] = NOISE(i);
     for (size_t i = 0; i < sizeof moves / sizeof moves[0]; i++)
@@ -187,16 +194,54 @@ static int tables_hold(size_t heads_count, size_t moves_count)
            holds(moves, sizeof moves / sizeof moves[0], hall_moves, moves_count);
 }
 
+/* Whether the first so many levels are these, and all else is kept. */
+static int levels_hold(const uint8_t *written, size_t count)
+{
+    for (size_t i = 0; i < sizeof levels; i++) {
+        int inside = i >= FENCE && i - FENCE < count;
+        if (levels[i] != (inside ? written[i - FENCE] : NOISE_BYTE(i)))
+            return 0;
+    }
+    return 1;
+}
+
 /* What a call returned and stored; nothing around the stored numbers is touched. */
 static void told(uint64_t cause, uint64_t owed_cause, uint64_t owed_first, uint64_t owed_second,
-                 int line)
+                 uint64_t owed_third, int line)
 {
     check_number(cause, owed_cause, "the cause", line);
     check_number(*first, owed_first, "the first number", line);
     check_number(*second, owed_second, "the second number", line);
-    check(numbers[0] == UNSET && numbers[2] == UNSET && numbers[4] == UNSET,
+    check_number(*third, owed_third, "the third number", line);
+    check(numbers[0] == UNSET && numbers[2] == UNSET && numbers[4] == UNSET && numbers[6] == UNSET,
           "a number beside the stored ones is changed", line);
 }
+
+struct ordered_book {
+    const uint8_t *bytes;
+    size_t length;
+    uint64_t names, rules, depth;
+    const uint8_t *levels;
+    int line;
+};
+
+/* A book that has an order: its levels, as many as are lent of 0 to over 64. */
+static void try_ordered(const struct ordered_book *book)
+{
+    clear();
+    told(call_read(book->bytes, book->length, first, second), 0, book->names, book->rules, UNSET,
+         book->line);
+    for (size_t lent = 0; lent <= LEVELS; lent++) {
+        clear();
+        told(call_order(book->bytes, book->length, lent_levels, lent, first, second, third), 0,
+             book->names, book->rules, book->depth, book->line);
+        check(levels_hold(book->levels, lent < book->names ? lent : (size_t)book->names),
+              "the levels", book->line);
+    }
+}
+
+#define ORDERED(bytes, length, names, rules, depth, levels)                                        \
+    try_ordered(&(struct ordered_book){bytes, length, names, rules, depth, levels, __LINE__})
 
 struct refused_book {
     const uint8_t *bytes;
@@ -205,36 +250,44 @@ struct refused_book {
     int line;
 };
 
-/* A book that is refused by all four calls, or accepted by the first ones: so many of read and
-   order accept it, with these numbers of names and rules. */
-static void try_refused(const struct refused_book *book, unsigned passes, uint64_t names,
-                        uint64_t rules)
+/* A book that has no tables, whatever it has of levels. */
+static void try_not_built(const struct refused_book *book)
 {
-    const uint8_t *bytes = book->bytes;
-    uint64_t cause = book->cause, value = book->value;
-
     clear();
-    if (passes > 0)
-        told(call_read(bytes, book->length, first, second), 0, names, rules, book->line);
-    else
-        told(call_read(bytes, book->length, first, second), cause, value, 0, book->line);
-    clear();
-    if (passes > 1)
-        told(call_order(bytes, book->length, first, second), 0, names, rules, book->line);
-    else
-        told(call_order(bytes, book->length, first, second), cause, value, 0, book->line);
-    clear();
-    told(call_build(bytes, book->length, lent_heads, 64, lent_moves, 15360, first, second), cause,
-         value, 0, book->line);
+    told(call_build(book->bytes, book->length, lent_heads, 64, lent_moves, 15360, first, second,
+                    third),
+         book->cause, book->value, 0, 0, book->line);
     check(tables_hold(0, 0), "a refused build changes the tables", book->line);
     clear();
-    told(call_derived(bytes, book->length, lent_heads, 64, lent_moves, 15360, 0, bytes, 1, first),
-         cause, value, UNSET, book->line);
+    told(call_derived(book->bytes, book->length, lent_heads, 64, lent_moves, 15360, 0, book->bytes,
+                      1, first),
+         book->cause, book->value, UNSET, UNSET, book->line);
     check(tables_hold(0, 0), "a refused build and question changes the tables", book->line);
 }
 
-#define REFUSED(bytes, length, cause, value, passes, names, rules)                                 \
-    try_refused(&(struct refused_book){bytes, length, cause, value, __LINE__}, passes, names, rules)
+/* A book that has no order, and so no tables. It cannot be read, or has so many names and rules. */
+static void try_refused(const struct refused_book *book, uint64_t names, uint64_t rules)
+{
+    clear();
+    if (names > 0)
+        told(call_read(book->bytes, book->length, first, second), 0, names, rules, UNSET,
+             book->line);
+    else
+        told(call_read(book->bytes, book->length, first, second), book->cause, book->value, 0,
+             UNSET, book->line);
+    for (size_t lent = 0; lent <= LEVELS; lent += 35) {
+        clear();
+        told(call_order(book->bytes, book->length, lent_levels, lent, first, second, third),
+             book->cause, book->value, 0, 0, book->line);
+        check(levels_hold(NULL, 0), "a refused order check changes the levels", book->line);
+    }
+    try_not_built(book);
+}
+
+#define NOT_BUILT(bytes, length, cause, value)                                                     \
+    try_not_built(&(struct refused_book){bytes, length, cause, value, __LINE__})
+#define REFUSED(bytes, length, cause, value, names, rules)                                         \
+    try_refused(&(struct refused_book){bytes, length, cause, value, __LINE__}, names, rules)
 
 /* A copy of the hall book with one byte changed. */
 static const uint8_t *hall_with(size_t place, uint8_t byte)
@@ -254,29 +307,30 @@ static void try_refused_books(void)
     static const uint8_t circle[] = {'R', 'L', 'B', 1, 0, 2, 2, 0, 0, 1, 2, 2, 1, 0};
     static const uint8_t itself[] = {'R', 'L', 'B', 1, 0, 3, 1, 0, 4, 1, 4};
 
-    REFUSED(hall, 0, 1, 0, 0, 0, 0);
-    REFUSED(hall, 7, 1, 0, 0, 0, 0);
-    REFUSED(longer, 2569, 1, 0, 0, 0, 0);
-    REFUSED(longer, 2568, 3, 0, 0, 0, 0);
-    REFUSED(hall_with(1, 'l'), 20, 2, 0, 0, 0, 0);
-    REFUSED(hall_with(3, 2), 20, 3, 0, 0, 0, 0);
-    REFUSED(hall_with(5, 65), 20, 4, 0, 0, 0, 0);
-    REFUSED(hall_with(7, 1), 20, 4, 0, 0, 0, 0);
-    REFUSED(hall_with(9, 9), 20, 5, 0, 0, 0, 0);
-    REFUSED(hall_with(13, 0), 20, 5, 1, 0, 0, 0);
-    REFUSED(hall, 19, 5, 2, 0, 0, 0);
-    REFUSED(hall, 21, 5, 3, 0, 0, 0);
-    REFUSED(hall_with(12, 8), 20, 6, 1, 0, 0, 0);
-    REFUSED(hall_with(19, 255), 20, 6, 2, 0, 0, 0);
-    REFUSED(repeated, sizeof repeated, 7, 1, 0, 0, 0);
-    REFUSED(circle, sizeof circle, 8, 1, 1, 2, 2);
-    REFUSED(itself, sizeof itself, 8, 0, 1, 3, 1);
+    REFUSED(hall, 0, 1, 0, 0, 0);
+    REFUSED(hall, 7, 1, 0, 0, 0);
+    REFUSED(longer, 2569, 1, 0, 0, 0);
+    REFUSED(longer, 2568, 3, 0, 0, 0);
+    REFUSED(hall_with(1, 'l'), 20, 2, 0, 0, 0);
+    REFUSED(hall_with(3, 2), 20, 3, 0, 0, 0);
+    REFUSED(hall_with(5, 65), 20, 4, 0, 0, 0);
+    REFUSED(hall_with(7, 1), 20, 4, 0, 0, 0);
+    REFUSED(hall_with(9, 9), 20, 5, 0, 0, 0);
+    REFUSED(hall_with(13, 0), 20, 5, 1, 0, 0);
+    REFUSED(hall, 19, 5, 2, 0, 0);
+    REFUSED(hall, 21, 5, 3, 0, 0);
+    REFUSED(hall_with(12, 8), 20, 6, 1, 0, 0);
+    REFUSED(hall_with(19, 255), 20, 6, 2, 0, 0);
+    REFUSED(repeated, sizeof repeated, 7, 1, 0, 0);
+    REFUSED(circle, sizeof circle, 8, 1, 2, 2);
+    REFUSED(itself, sizeof itself, 8, 0, 3, 1);
 }
 
-/* Tables of too many states: each name has eight copies of the one before it. No book is refused by
-   cause 10: 2,048 states have at most 5,120 moves. */
+/* Tables of too many states: each name has eight copies of the one before it. The book has levels.
+   No book is refused by cause 10: 2,048 states have at most 5,120 moves. */
 static void try_large_book(void)
 {
+    static const uint8_t large_levels[] = {1, 2, 3, 4, 5};
     uint8_t large[8 + 4 * 10] = {'R', 'L', 'B', 1, 0, 5, 4, 0};
 
     for (uint8_t rule = 0; rule < 4; rule++) {
@@ -284,7 +338,57 @@ static void try_large_book(void)
         large[9 + 10 * rule] = 8;
         memset(large + 10 + 10 * rule, 2 * rule, 8);
     }
-    REFUSED(large, sizeof large, 9, 0, 2, 5, 4);
+    ORDERED(large, sizeof large, 5, 4, 5, large_levels);
+    NOT_BUILT(large, sizeof large, 9, 0);
+}
+
+/* Books whose levels tell rules of a name from those of its inverse, and inner names from others:
+   names 0 to 3 are r, s, t and u. */
+static void try_levels(void)
+{
+    /* t to s; t to r; inv s u to inv r */
+    static const uint8_t both[] = {'R', 'L', 'B', 1, 0, 4, 3, 0, 2, 1, 4, 0, 1, 4, 1, 2, 3, 6};
+    /* s to inv r; t to r; inv t inv s to inv s */
+    static const uint8_t back[] = {'R', 'L', 'B', 1, 0, 3, 3, 0, 1, 1, 2, 0, 1, 4, 3, 2, 5, 3};
+    /* r to u; s to r; t to s: each rule before the one it leans on */
+    static const uint8_t late[] = {'R', 'L', 'B', 1, 0, 4, 3, 0, 6, 1, 0, 0, 1, 2, 2, 1, 4};
+    /* r r to r; inv s to s: no inner role */
+    static const uint8_t own[] = {'R', 'L', 'B', 1, 0, 3, 2, 0, 0, 2, 0, 0, 2, 1, 3};
+
+    ORDERED(hall, 20, 4, 3, 3, ((const uint8_t[]){1, 2, 1, 3}));
+    ORDERED(both, sizeof both, 4, 3, 3, ((const uint8_t[]){3, 2, 1, 1}));
+    ORDERED(back, sizeof back, 3, 3, 3, ((const uint8_t[]){3, 2, 1}));
+    ORDERED(late, sizeof late, 4, 3, 4, ((const uint8_t[]){3, 2, 1, 4}));
+    ORDERED(own, sizeof own, 3, 2, 1, ((const uint8_t[]){1, 1, 1}));
+    clear();
+    told(call_build(back, sizeof back, lent_heads, 3, lent_moves, 45, first, second, third), 0, 14,
+         15, 3, __LINE__);
+    clear();
+    told(call_build(own, sizeof own, lent_heads, 3, lent_moves, 15, first, second, third), 0, 6, 5,
+         1, __LINE__);
+}
+
+/* Books of so many names in a row, each with the next one on the left of its only rule: the deepest
+   of all, whose tables are too large, and the deepest such book that has tables. */
+static void try_ladders(void)
+{
+    uint8_t ladder[8 + 3 * 63] = {'R', 'L', 'B', 1, 0, 64, 63, 0}, falling[64];
+
+    for (uint8_t name = 0; name < 64; name++)
+        falling[name] = (uint8_t)(64 - name);
+    for (uint8_t rule = 0; rule < 63; rule++) {
+        ladder[8 + 3 * rule] = (uint8_t)(2 * rule);
+        ladder[9 + 3 * rule] = 1;
+        ladder[10 + 3 * rule] = (uint8_t)(2 * rule + 2);
+    }
+    ORDERED(ladder, sizeof ladder, 64, 63, 64, falling);
+    NOT_BUILT(ladder, sizeof ladder, 9, 0);
+    ladder[5] = 44;
+    ladder[6] = 43;
+    ORDERED(ladder, 8 + 3 * 43, 44, 43, 44, falling + 20);
+    clear();
+    told(call_build(ladder, 8 + 3 * 43, lent_heads, 64, lent_moves, 15360, first, second, third), 0,
+         1980, 2882, 44, __LINE__);
 }
 
 /* The hall book, in memory just long enough, longer, and one number too short. */
@@ -293,27 +397,25 @@ static void try_build(void)
     static const size_t short_lengths[][2] = {{3, 54}, {4, 53}, {0, 15360}, {64, 0}, {54, 4}, {3, 53}};
 
     clear();
-    told(call_read(hall, 20, first, second), 0, 4, 3, __LINE__);
-    clear();
-    told(call_order(hall, 20, first, second), 0, 4, 3, __LINE__);
-    clear();
-    told(call_build(hall, 20, lent_heads, 4, lent_moves, 54, first, second), 0, 16, 18, __LINE__);
+    told(call_build(hall, 20, lent_heads, 4, lent_moves, 54, first, second, third), 0, 16, 18, 3,
+         __LINE__);
     CHECK(tables_hold(4, 54));
     clear();
-    told(call_build(hall, 20, lent_heads, 70, lent_moves, 15366, first, second), 0, 16, 18,
-         __LINE__);
+    told(call_build(hall, 20, lent_heads, 70, lent_moves, 15366, first, second, third), 0, 16, 18,
+         3, __LINE__);
     CHECK(tables_hold(4, 54));
     for (size_t i = 0; i < sizeof short_lengths / sizeof short_lengths[0]; i++) {
         size_t heads_len = short_lengths[i][0], moves_len = short_lengths[i][1];
 
         clear();
-        told(call_build(hall, 20, lent_heads, heads_len, lent_moves, moves_len, first, second), 11,
-             0, 0, __LINE__);
+        told(call_build(hall, 20, lent_heads, heads_len, lent_moves, moves_len, first, second,
+                        third),
+             11, 0, 0, 0, __LINE__);
         CHECK(tables_hold(0, 0));
         clear();
         told(call_derived(hall, 20, lent_heads, heads_len, lent_moves, moves_len, 6, hall, 1,
                           first),
-             11, 0, UNSET, __LINE__);
+             11, 0, UNSET, UNSET, __LINE__);
         CHECK(tables_hold(0, 0));
     }
 }
@@ -345,11 +447,11 @@ static void try_questions(void)
 
         clear();
         told(call_ask(hall_heads, 4, hall_moves, 54, q->role, q->chain, q->length, first), q->cause,
-             q->answer, UNSET, __LINE__);
+             q->answer, UNSET, UNSET, __LINE__);
         clear();
         told(call_derived(hall, 20, lent_heads, 5, lent_moves, 57, q->role, q->chain, q->length,
                           first),
-             q->cause, q->answer, UNSET, __LINE__);
+             q->cause, q->answer, UNSET, UNSET, __LINE__);
         check(tables_hold(4 * built, 54 * built), "the tables of a question", __LINE__);
     }
 }
@@ -362,7 +464,7 @@ static void try_ask(const uint16_t *asked_heads, size_t heads_len, const uint16_
 
     clear();
     told(call_ask(asked_heads, heads_len, asked_moves, moves_len, 0, chain, 1, first), cause, answer,
-         UNSET, line);
+         UNSET, UNSET, line);
 }
 
 #define ASK(heads, heads_len, moves, moves_len, cause, answer)                                     \
@@ -445,8 +547,8 @@ static void try_example(const char *path)
     FILE *program = popen(path, "r");
     char *text = text_of(program);
 
-    TEXT(text, "book 16 18 0 yes 1 no 2 yes 3 refused 13 4 refused 14 book refused 8 1 "
-               "refused 8: no regular order; rule 1 ");
+    TEXT(text, "levels 1 2 1 3 book 16 18 3 0 yes 1 no 2 yes 3 refused 13 4 refused 14 "
+               "book refused 8 1 refused 8: no regular order; rule 1 ");
     CHECK(program && pclose(program) == 0);
     free(text);
 }
@@ -462,6 +564,8 @@ int main(int argc, char **argv)
     try_words();
     try_refused_books();
     try_large_book();
+    try_levels();
+    try_ladders();
     try_build();
     try_questions();
     try_tables();
