@@ -1,7 +1,8 @@
-//! The worked example: builds the tables of the hall book, asks it five questions and prints the
-//! lines that the program `engine` writes for them. Then it shows a book that is refused.
+//! The worked example: prints the levels of the hall book's names, builds its tables, asks it five
+//! questions and prints the lines that the program `engine` writes for them. Then it shows a book
+//! that is refused.
 
-use rabbitsteel::{inverse, role, Refusal, Tables};
+use rabbitsteel::{inverse, order, role, Order, Refusal, Tables};
 
 const PART: u8 = role(0);
 const SITS: u8 = role(1);
@@ -37,17 +38,32 @@ const QUESTIONS: [(u8, &[u8]); 5] = [
 
 fn main() {
     for book in [&HALL[..], &CIRCLE] {
-        match Tables::of(book) {
-            Ok(tables) => ask_all(&tables),
-            Err(refusal) => print_refusal(refusal),
+        if let Err(refusal) = show(book) {
+            print_refusal(refusal);
         }
     }
+}
+
+/// Prints the levels of a book, its line and its answers.
+fn show(book: &[u8]) -> Result<(), Refusal> {
+    print_levels(&order(book)?);
+    ask_all(&Tables::of(book)?);
+    Ok(())
+}
+
+fn print_levels(order: &Order) {
+    let levels: String = order
+        .levels()
+        .iter()
+        .map(|level| format!(" {level}"))
+        .collect();
+    println!("levels{levels}");
 }
 
 /// Prints the program's line for the book and for each question.
 fn ask_all(tables: &Tables) {
     let counts = tables.counts();
-    println!("book {} {}", counts.states, counts.moves);
+    println!("book {} {} {}", counts.states, counts.moves, counts.depth);
     for (number, (role, chain)) in QUESTIONS.into_iter().enumerate() {
         match tables.ask(role, chain) {
             Ok(true) => println!("{number} yes"),

@@ -2,11 +2,12 @@
 //! numbers mean is left to the callers.
 
 /// What a call returns and stores: the number of the cause or 0, and the numbers lent to it.
-/// A question stores one number, so its second is 0.
+/// The reader stores two numbers and a question one, so the others are 0.
 pub(crate) struct Told {
     pub(crate) cause: u64,
     pub(crate) first: u64,
     pub(crate) second: u64,
+    pub(crate) third: u64,
 }
 
 // SAFETY: these are the declarations of `bindings/c/rabbitsteel.h`.
@@ -17,8 +18,11 @@ unsafe extern "C" {
     fn rabbitsteel_order(
         book: *const u8,
         book_len: usize,
+        levels: *mut u8,
+        levels_len: usize,
         first: *mut u64,
         second: *mut u64,
+        third: *mut u64,
     ) -> u64;
 
     fn rabbitsteel_build(
@@ -30,6 +34,7 @@ unsafe extern "C" {
         moves_len: usize,
         first: *mut u64,
         second: *mut u64,
+        third: *mut u64,
     ) -> u64;
 
     fn rabbitsteel_ask(
@@ -66,22 +71,34 @@ pub(crate) fn read(book: &[u8]) -> Told {
         cause,
         first,
         second,
+        third: 0,
     }
 }
 
-pub(crate) fn order(book: &[u8]) -> Told {
-    let (mut first, mut second) = (0, 0);
-    // SAFETY: as in `read`.
-    let cause = unsafe { rabbitsteel_order(book.as_ptr(), book.len(), &mut first, &mut second) };
+pub(crate) fn order(book: &[u8], levels: &mut [u8]) -> Told {
+    let (mut first, mut second, mut third) = (0, 0, 0);
+    // SAFETY: as in `read`; `levels` is borrowed for writing, so it does not overlap the book.
+    let cause = unsafe {
+        rabbitsteel_order(
+            book.as_ptr(),
+            book.len(),
+            levels.as_mut_ptr(),
+            levels.len(),
+            &mut first,
+            &mut second,
+            &mut third,
+        )
+    };
     Told {
         cause,
         first,
         second,
+        third,
     }
 }
 
 pub(crate) fn build(book: &[u8], heads: &mut [u16], moves: &mut [u16]) -> Told {
-    let (mut first, mut second) = (0, 0);
+    let (mut first, mut second, mut third) = (0, 0, 0);
     // SAFETY: as in `read`; `heads` and `moves` are borrowed for writing, so they overlap neither
     // each other nor the book.
     let cause = unsafe {
@@ -94,12 +111,14 @@ pub(crate) fn build(book: &[u8], heads: &mut [u16], moves: &mut [u16]) -> Told {
             moves.len(),
             &mut first,
             &mut second,
+            &mut third,
         )
     };
     Told {
         cause,
         first,
         second,
+        third,
     }
 }
 
@@ -123,6 +142,7 @@ pub(crate) fn ask(heads: &[u16], moves: &[u16], role: u8, chain: &[u8]) -> Told 
         cause,
         first,
         second: 0,
+        third: 0,
     }
 }
 
@@ -154,5 +174,6 @@ pub(crate) fn derived(
         cause,
         first,
         second: 0,
+        third: 0,
     }
 }

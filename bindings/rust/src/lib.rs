@@ -1,8 +1,8 @@
 //! Safe calls of the proved relation engine.
 //!
 //! A book holds rules over links, such as "part sits to sits": a part of what sits in a hall sits
-//! there too. The engine reads a book, checks that its rules have a regular order, builds tables
-//! and answers whether a chain of links is derived from a role.
+//! there too. The engine reads a book, checks that its rules have a regular order and how deep it
+//! is, builds tables and answers whether a chain of links is derived from a role.
 //!
 //! A role byte is twice the name, plus 1 for the inverse; [`role`] and [`inverse`] make them. The
 //! calls keep no state and take no more memory than is lent to them, so they may run in several
@@ -11,7 +11,7 @@
 //! # The hall book
 //!
 //! ```
-//! use rabbitsteel::{inverse, role, Cause, Counts, Tables};
+//! use rabbitsteel::{inverse, order, role, Cause, Counts, Tables};
 //!
 //! const PART: u8 = role(0);
 //! const SITS: u8 = role(1);
@@ -26,8 +26,13 @@
 //!     DUE, 2, SITS, LET,               // sits let to due
 //! ];
 //!
+//! // part and let stand on no other name, sits on part, due on sits and let.
+//! let order = order(&book)?;
+//! assert_eq!(order.levels(), [1, 2, 1, 3]);
+//! assert_eq!(order.depth, 3);
+//!
 //! let tables = Tables::of(&book)?;
-//! assert_eq!(tables.counts(), Counts { states: 16, moves: 18 });
+//! assert_eq!(tables.counts(), Counts { states: 16, moves: 18, depth: 3 });
 //! assert!(tables.ask(DUE, &[PART, PART, SITS, LET])?);
 //! assert!(!tables.ask(DUE, &[SITS, PART, LET])?);
 //! assert!(tables.ask(inverse(DUE), &[inverse(LET), inverse(SITS), inverse(PART)])?);
@@ -92,13 +97,37 @@ pub struct Header {
     pub rules: usize,
 }
 
-/// How large the tables of a book are.
+/// What the order check finds of a book: its header, its depth and the level of each name.
+///
+/// The level of a name, and of its inverse, is 1 where none of its rules has an inner role, else 1
+/// more than the highest level among its rules' inner names.
+#[derive(Debug, Clone, PartialEq, Eq, Hash)]
+pub struct Order {
+    /// How many names it has.
+    pub names: usize,
+    /// How many rules it has.
+    pub rules: usize,
+    /// The highest level, 1 to [`NAMES_MAX`].
+    pub depth: usize,
+    levels: Box<[u8]>,
+}
+
+impl Order {
+    /// One level to a name.
+    pub fn levels(&self) -> &[u8] {
+        &self.levels
+    }
+}
+
+/// How large the tables of a book are, and how deep it is.
 #[derive(Debug, Clone, Copy, PartialEq, Eq, Hash)]
 pub struct Counts {
-    /// How many states they have.
+    /// How many states the tables have.
     pub states: usize,
     /// How many moves they have.
     pub moves: usize,
+    /// The depth of the book: the highest level of its names.
+    pub depth: usize,
 }
 
 impl Counts {
@@ -110,14 +139,33 @@ impl Counts {
 
 /// Reads a book: causes 1 to 7.
 pub fn read(book: &[u8]) -> Result<Header, Refusal> {
-    let (names, rules) = accepted(calls::read(book))?;
+    let [names, rules, _] = accepted(calls::read(book))?;
     Ok(Header { names, rules })
 }
 
-/// Reads a book and checks that its rules have a regular order: causes 1 to 8.
-pub fn order(book: &[u8]) -> Result<Header, Refusal> {
-    let (names, rules) = accepted(calls::order(book))?;
-    Ok(Header { names, rules })
+/// Reads a book, checks that its rules have a regular order and gives the levels: causes 1 to 8.
+///
+/// A book whose tables would be too large has levels too.
+///
+/// ```
+/// use rabbitsteel::{order, role};
+///
+/// // One rule, from name 1 to name 0.
+/// let book = [b'R', b'L', b'B', 1, 0, 2, 1, 0, role(0), 1, role(1)];
+/// let order = order(&book)?;
+/// assert_eq!((order.names, order.rules, order.depth), (2, 1, 2));
+/// assert_eq!(order.levels(), [2, 1]);
+/// # Ok::<(), rabbitsteel::Refusal>(())
+/// ```
+pub fn order(book: &[u8]) -> Result<Order, Refusal> {
+    let mut levels = [0; NAMES_MAX];
+    let [names, rules, depth] = accepted(calls::order(book, &mut levels))?;
+    Ok(Order {
+        names,
+        rules,
+        depth,
+        levels: levels[..names].into(),
+    })
 }
 
 /// Builds the tables of a book in lent memory: causes 1 to 11.
@@ -127,8 +175,12 @@ pub fn order(book: &[u8]) -> Result<Header, Refusal> {
 /// leaves `heads` and `moves` unchanged. [`NAMES_MAX`] heads and [`MOVES_LEN`] moves suffice for
 /// every book. [`Tables`] does the same with memory of its own.
 pub fn build(book: &[u8], heads: &mut [u16], moves: &mut [u16]) -> Result<Counts, Refusal> {
-    let (states, moves) = accepted(calls::build(book, heads, moves))?;
-    Ok(Counts { states, moves })
+    let [states, moves, depth] = accepted(calls::build(book, heads, moves))?;
+    Ok(Counts {
+        states,
+        moves,
+        depth,
+    })
 }
 
 /// Asks tables whether the chain is derived from the role: causes 12 to 14.
@@ -136,7 +188,7 @@ pub fn build(book: &[u8], heads: &mut [u16], moves: &mut [u16]) -> Result<Counts
 /// Lend it the numbers that a build wrote and no more. Tables that no book gave are answered too:
 /// yes where some path from the name's head to head + 1 spells the chain, silent moves free.
 pub fn ask(heads: &[u16], moves: &[u16], role: u8, chain: &[u8]) -> Result<bool, Refusal> {
-    let (answer, _) = accepted(calls::ask(heads, moves, role, chain))?;
+    let [answer, ..] = accepted(calls::ask(heads, moves, role, chain))?;
     Ok(answer == 1)
 }
 
@@ -151,15 +203,15 @@ pub fn derived(
     role: u8,
     chain: &[u8],
 ) -> Result<bool, Refusal> {
-    let (answer, _) = accepted(calls::derived(book, heads, moves, role, chain))?;
+    let [answer, ..] = accepted(calls::derived(book, heads, moves, role, chain))?;
     Ok(answer == 1)
 }
 
-/// The two numbers that a call stored, or why it refuses.
-fn accepted(told: Told) -> Result<(usize, usize), Refusal> {
+/// The numbers that a call stored, or why it refuses.
+fn accepted(told: Told) -> Result<[usize; 3], Refusal> {
     let first = size(told.first);
     if told.cause == 0 {
-        return Ok((first, size(told.second)));
+        return Ok([first, size(told.second), size(told.third)]);
     }
     let cause = Cause::numbered(told.cause).expect("the archive has the causes of this package");
     Err(Refusal {

@@ -40,7 +40,7 @@ impl Tables {
         &self.moves
     }
 
-    /// How many states and moves there are.
+    /// How many states and moves there are, and the depth of the book.
     pub fn counts(&self) -> Counts {
         self.counts
     }

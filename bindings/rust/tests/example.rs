@@ -3,7 +3,8 @@
 use std::process::Command;
 
 const LINES: &str = "\
-book 16 18
+levels 1 2 1 3
+book 16 18 3
 0 yes
 1 no
 2 yes

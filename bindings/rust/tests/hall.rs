@@ -45,6 +45,14 @@ fn hall_with(place: usize, byte: u8) -> Vec<u8> {
     bytes
 }
 
+/// What the order check says of a book that has an order: names, rules, depth and levels.
+fn assert_ordered(book: &[u8], names: usize, rules: usize, depth: usize, levels: &[u8]) {
+    let order = order(book).unwrap();
+    assert_eq!((order.names, order.rules), (names, rules));
+    assert_eq!(order.depth, depth);
+    assert_eq!(order.levels(), levels);
+}
+
 fn untouched(heads: &[u16], moves: &[u16]) -> bool {
     heads.iter().chain(moves).all(|&number| number == UNTOUCHED)
 }
@@ -79,9 +87,44 @@ fn assert_not_built(book: &[u8], cause: Cause, value: usize) {
 
 #[test]
 fn hall_book_is_read_and_ordered() {
-    let header = Header { names: 4, rules: 3 };
-    assert_eq!(read(&HALL), Ok(header));
-    assert_eq!(order(&HALL), Ok(header));
+    assert_eq!(read(&HALL), Ok(Header { names: 4, rules: 3 }));
+    assert_ordered(&HALL, 4, 3, 3, &[1, 2, 1, 3]);
+}
+
+#[test]
+fn levels_of_names() {
+    // Rules of a name and of its inverse count alike: t to s; t to r; inv s u to inv r.
+    let both: [(u8, &[u8]); 3] = [(2, &[4]), (0, &[4]), (1, &[3, 6])];
+    assert_ordered(&book(4, &both), 4, 3, 3, &[3, 2, 1, 1]);
+    // s to inv r; t to r; inv t inv s to inv s.
+    let back: [(u8, &[u8]); 3] = [(1, &[2]), (0, &[4]), (3, &[5, 3])];
+    assert_ordered(&book(3, &back), 3, 3, 3, &[3, 2, 1]);
+    assert_eq!(Tables::of(&book(3, &back)).unwrap().counts().depth, 3);
+    // r r to r; inv s to s: no inner role.
+    let own: [(u8, &[u8]); 2] = [(0, &[0, 0]), (2, &[3])];
+    assert_ordered(&book(3, &own), 3, 2, 1, &[1, 1, 1]);
+}
+
+#[test]
+fn deepest_book() {
+    // Each name has the next one on the left of its only rule. 44 such names have tables.
+    let next: Vec<[u8; 1]> = (1..64).map(|name| [2 * name]).collect();
+    let rules: Vec<(u8, &[u8])> = (0..)
+        .step_by(2)
+        .zip(next.iter().map(|left| &left[..]))
+        .collect();
+    let levels: Vec<u8> = (1..=64).rev().collect();
+    assert_ordered(&book(64, &rules), 64, 63, 64, &levels);
+    assert_not_built(&book(64, &rules), Cause::States, 0);
+    let counts = Tables::of(&book(44, &rules[..43])).unwrap().counts();
+    assert_eq!(
+        counts,
+        Counts {
+            states: 1980,
+            moves: 2882,
+            depth: 44
+        }
+    );
 }
 
 #[test]
@@ -111,7 +154,8 @@ fn hall_tables_are_cut_to_what_is_written() {
         tables.counts(),
         Counts {
             states: 16,
-            moves: 18
+            moves: 18,
+            depth: 3
         }
     );
     assert_eq!(tables.heads(), [0, 2, 6, 8]);
@@ -126,7 +170,8 @@ fn numbers_after_the_tables_are_left() {
         counts,
         Ok(Counts {
             states: 16,
-            moves: 18
+            moves: 18,
+            depth: 3
         })
     );
     let (built_heads, other_heads) = heads.split_at(4);
@@ -156,7 +201,8 @@ fn tables_lent_too_short_are_left() {
         counts,
         Ok(Counts {
             states: 16,
-            moves: 18
+            moves: 18,
+            depth: 3
         })
     );
 }
@@ -210,7 +256,7 @@ fn tables_that_are_too_large() {
     let eight = |name: u8| [2 * name; 8];
     let (zero, one, two, three) = (eight(0), eight(1), eight(2), eight(3));
     let rules: [(u8, &[u8]); 4] = [(2, &zero), (4, &one), (6, &two), (8, &three)];
-    assert!(order(&book(5, &rules)).is_ok());
+    assert_ordered(&book(5, &rules), 5, 4, 5, &[1, 2, 3, 4, 5]);
     assert_not_built(&book(5, &rules), Cause::States, 0);
     let tables = Tables::of(&book(4, &rules[..3])).unwrap();
     assert_eq!(tables.counts().states, 2 + 18 + 146 + 1170);
@@ -269,7 +315,8 @@ fn smallest_book() {
         tables.counts(),
         Counts {
             states: 2,
-            moves: 1
+            moves: 1,
+            depth: 1
         }
     );
     assert_eq!(tables.moves(), [0, 0, 1]);

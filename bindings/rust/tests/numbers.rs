@@ -38,6 +38,7 @@ fn numbers_to_moves() {
     let counts = Counts {
         states: 16,
         moves: 18,
+        depth: 3,
     };
     assert_eq!(counts.numbers(), 54);
 }
