@@ -598,7 +598,18 @@ class Ask(WithEngine):
 
     def test_no_question_tells_of_the_book(self) -> None:
         self.write("hall.txt", HALL_TEXT)
-        self.assertEqual(self.ask("hall.txt"), (0, "book: 16 states, 18 moves\n", ""))
+        self.assertEqual(self.ask("hall.txt"), (0, "book: 16 states, 18 moves, depth 3\n", ""))
+
+    def test_depth(self) -> None:
+        names = [f"n{number}" for number in range(44)]
+        ladder = "".join(f"{low} -> {high}\n" for low, high in zip(names, names[1:]))
+        for text, told in [
+            ("names r s\nr r -> r\ninv s -> s\n", "4 states, 4 moves, depth 1"),
+            ("names r s t\ns -> inv r\nt -> r\ninv t inv s -> inv s\n", "14 states, 15 moves, depth 3"),
+            (f"names {' '.join(names)}\n{ladder}", "1980 states, 2882 moves, depth 44"),
+        ]:
+            self.write("b.txt", text)
+            self.assertEqual(self.ask("b.txt"), (0, f"book: {told}\n", ""))
 
     def test_wrong_questions_do_not_stop_the_others(self) -> None:
         self.write("hall.txt", HALL_TEXT)
@@ -713,16 +724,24 @@ class EngineRun(InFolder):
         with mock.patch.dict(os.environ, {engine.VARIABLE: "/none/other"}):
             self.assertRaisesRegex(Fault, "/none/other: no engine here", engine.find, None)
 
+    def test_lines_taken_apart(self) -> None:
+        said = engine.read_transcript(ENGINE, ["book 16 18 3", "0 yes", "1 refused 13", "2 no"], 3)
+        self.assertEqual(said, (None, 16, 18, 3, ["yes", Refusal(13), "no"]))
+        said = engine.read_transcript(ENGINE, ["book refused 8 1"], 3)
+        self.assertEqual(said, (Refusal(8, 1), 0, 0, 0, []))
+
     def test_other_output_is_no_answer(self) -> None:
         for lines in (
             [],
             ["hello"],
             ["book 2"],
-            ["book 2 1"],
-            ["book 2 1", "0 maybe"],
-            ["book 2 1", "1 yes"],
-            ["book 2 1", "0 cut"],
-            ["book 2 1", "0 yes", "1 yes"],
+            ["book 2 1", "0 yes"],
+            ["book 2 1 1"],
+            ["book 2 1 1 1", "0 yes"],
+            ["book 2 1 1", "0 maybe"],
+            ["book 2 1 1", "1 yes"],
+            ["book 2 1 1", "0 cut"],
+            ["book 2 1 1", "0 yes", "1 yes"],
             ["book refused 15 0"],
             ["book refused 8 0", "0 yes"],
         ):
@@ -736,7 +755,7 @@ RUNS = [
     (["pack", "none.txt"], 1, "", "none.txt: No such file or directory\n"),
     (["unpack", "hall.rlb"], 0, "names r0 r1 r2 r3\n\nr0 r0 -> r0\nr0 r1 -> r1\nr1 r2 -> r3\n", ""),
     (["unpack", "short.rlb"], 1, "", f"short.rlb: no well-formed book, cause 1 with 0: {CAUSES[1]}\n"),
-    (["ask", "hall.txt"], 0, "book: 16 states, 18 moves\n", ""),
+    (["ask", "hall.txt"], 0, "book: 16 states, 18 moves, depth 3\n", ""),
     (["ask", "hall.txt", "due: sits let", "due: let"], 0, "due: sits let: yes\ndue: let: no\n", ""),
     (["ask", "hall.txt", "due: due", "due:"], 1, f"due: due: yes\ndue: (no link): refused 13: {CAUSES[13]}\n", ""),
     (["ask", "hall.txt", "due: lit"], 1, "", "question:1:6: unknown name 'lit'\n"),

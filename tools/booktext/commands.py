@@ -60,7 +60,7 @@ def ask(args: Namespace) -> int:
     if said.refusal:
         tell_refused(said.refusal, asked.book.rules)
     elif not questions and not faults.messages:
-        print(f"book: {said.states} states, {said.moves} moves")
+        print(f"book: {said.states} states, {said.moves} moves, depth {said.depth}")
     for question, answer in zip(questions, said.answers):
         print(f"{question}: {answer_words(answer)}")
     faults.settle()

@@ -14,16 +14,18 @@ from .faults import Fault
 VARIABLE = "RABBITSTEEL_ENGINE"
 BUILT = Path(__file__).resolve().parents[2] / "target" / "bin" / "engine"
 
-FIRST_LINE = re.compile(r"book (?:(?P<states>\d+) (?P<moves>\d+)|refused (?P<cause>1[0-4]|[1-9]) (?P<value>\d+))")
+SIZES = r"(?P<states>\d+) (?P<moves>\d+) (?P<depth>\d+)"
+FIRST_LINE = re.compile(rf"book (?:{SIZES}|refused (?P<cause>1[0-4]|[1-9]) (?P<value>\d+))")
 ANSWER_LINE = re.compile(r"(?P<number>\d+) (?:(?P<word>yes|no)|refused (?P<cause>1[0-4]|[1-9]))")
 
 
 class Transcript(NamedTuple):
-    """What the program said: a book refused, or its sizes and an answer (yes, no or a refusal) for each question."""
+    """What the program said: a book refused, or its sizes and depth, and an answer (yes, no or a refusal) a question."""
 
     refusal: Refusal | None
     states: int
     moves: int
+    depth: int
     answers: list[str | Refusal]
 
     def all_answered(self) -> bool:
@@ -50,10 +52,10 @@ def read_transcript(engine: Path, lines: list[str], count: int) -> Transcript:
     """The lines taken apart. Any other output is no answer, so it is a fault."""
     first = FIRST_LINE.fullmatch(lines[0]) if lines else None
     if first and first["cause"] and len(lines) == 1:
-        return Transcript(Refusal(int(first["cause"]), int(first["value"])), 0, 0, [])
+        return Transcript(Refusal(int(first["cause"]), int(first["value"])), 0, 0, 0, [])
     answers = [ANSWER_LINE.fullmatch(line) for line in lines[1:]]
     numbers = [answer and int(answer["number"]) for answer in answers]
     if not first or first["cause"] or numbers != list(range(count)):
         raise Fault(f"{engine}: its output is not an engine's: {lines[:1] + lines[-1:]}")
     said = [answer["word"] or Refusal(int(answer["cause"])) for answer in answers if answer]
-    return Transcript(None, int(first["states"]), int(first["moves"]), said)
+    return Transcript(None, int(first["states"]), int(first["moves"]), int(first["depth"]), said)
