@@ -352,6 +352,9 @@ static void try_levels(void)
     static const uint8_t back[] = {'R', 'L', 'B', 1, 0, 3, 3, 0, 1, 1, 2, 0, 1, 4, 3, 2, 5, 3};
     /* r to u; s to r; t to s: each rule before the one it leans on */
     static const uint8_t late[] = {'R', 'L', 'B', 1, 0, 4, 3, 0, 6, 1, 0, 0, 1, 2, 2, 1, 4};
+    /* 0 to 1; 1 to 2; 3 4 5 to 6: the name with the most names below it is not the deepest */
+    static const uint8_t wide[] = {'R', 'L', 'B', 1, 0, 7, 3, 0, 2, 1,
+                                   0, 4, 1, 2, 12, 3, 6, 8, 10};
     /* r r to r; inv s to s: no inner role */
     static const uint8_t own[] = {'R', 'L', 'B', 1, 0, 3, 2, 0, 0, 2, 0, 0, 2, 1, 3};
 
@@ -359,6 +362,7 @@ static void try_levels(void)
     ORDERED(both, sizeof both, 4, 3, 3, ((const uint8_t[]){3, 2, 1, 1}));
     ORDERED(back, sizeof back, 3, 3, 3, ((const uint8_t[]){3, 2, 1}));
     ORDERED(late, sizeof late, 4, 3, 4, ((const uint8_t[]){3, 2, 1, 4}));
+    ORDERED(wide, sizeof wide, 7, 3, 3, ((const uint8_t[]){1, 2, 3, 1, 1, 1, 2}));
     ORDERED(own, sizeof own, 3, 2, 1, ((const uint8_t[]){1, 1, 1}));
     clear();
     told(call_build(back, sizeof back, lent_heads, 3, lent_moves, 45, first, second, third), 0, 14,

@@ -5,8 +5,9 @@
 //! is, builds tables and answers whether a chain of links is derived from a role.
 //!
 //! A role byte is twice the name, plus 1 for the inverse; [`role`] and [`inverse`] make them. The
-//! calls keep no state and take no more memory than is lent to them, so they may run in several
-//! threads at once; a build or a question takes up to 40 KB of the stack, both in one call 70 KB.
+//! calls keep no state and take no memory but what is lent to them and what they give back, so they
+//! may run in several threads at once; a build or a question takes up to 40 KB of the stack, both in
+//! one call 70 KB.
 //!
 //! # The hall book
 //!

@@ -100,6 +100,9 @@ fn levels_of_names() {
     let back: [(u8, &[u8]); 3] = [(1, &[2]), (0, &[4]), (3, &[5, 3])];
     assert_ordered(&book(3, &back), 3, 3, 3, &[3, 2, 1]);
     assert_eq!(Tables::of(&book(3, &back)).unwrap().counts().depth, 3);
+    // The name with the most names below it, the last, is not the deepest.
+    let wide: [(u8, &[u8]); 3] = [(2, &[0]), (4, &[2]), (12, &[6, 8, 10])];
+    assert_ordered(&book(7, &wide), 7, 3, 3, &[1, 2, 3, 1, 1, 1, 2]);
     // r r to r; inv s to s: no inner role.
     let own: [(u8, &[u8]); 2] = [(0, &[0, 0]), (2, &[3])];
     assert_ordered(&book(3, &own), 3, 2, 1, &[1, 1, 1]);

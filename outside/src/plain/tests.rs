@@ -446,6 +446,9 @@ fn levels_of_names() {
     // Of several inner names the highest counts, wherever it stands.
     let wide = [(6, vec![t, R, t]), (6, vec![t]), (R, vec![t])];
     assert_eq!(levels_of(&wide), [2, 1, 1, 3]);
+    // The name with the most names below it, the last, is not the deepest.
+    let broad = encode(7, &[(2, vec![0]), (4, vec![2]), (12, vec![6, 8, 10])]);
+    assert_eq!(ordered(&broad), Ok((7, 3, 3, vec![1, 2, 3, 1, 1, 1, 2])));
 }
 
 #[test]
