@@ -81,20 +81,21 @@ impl Levels {
 
 /// The names in rising order of how many are below them: each comes after all that are below it.
 fn rising(below: &[u64]) -> [u8; MAX_NAMES] {
-    let count = |below: u64| below.count_ones() as usize;
+    let mut counts = [0u8; MAX_NAMES];
     // Where the names with so many below them start; a name has at most all others below it.
-    let mut start = [0u8; MAX_NAMES + 1];
-    for &below in below {
-        start[count(below) + 1] += 1;
+    let mut starts = [0u8; MAX_NAMES + 1];
+    for (count, below) in counts.iter_mut().zip(below) {
+        *count = below.count_ones() as u8;
+        starts[usize::from(*count) + 1] += 1;
     }
-    for place in 1..below.len() {
-        start[place] += start[place - 1];
+    for count in 1..below.len() {
+        starts[count] += starts[count - 1];
     }
     let mut row = [0; MAX_NAMES];
-    for (name, &below) in below.iter().enumerate() {
-        let place = &mut start[count(below)];
-        row[usize::from(*place)] = name as u8;
-        *place += 1;
+    for (name, count) in counts[..below.len()].iter().enumerate() {
+        let start = &mut starts[usize::from(*count)];
+        row[usize::from(*start)] = name as u8;
+        *start += 1;
     }
     row
 }
