@@ -2,7 +2,7 @@
 ghost use mathlib.Core.Path.{_≡_};
 ghost use Prim.Native.Nat.{_+_};
 ghost use lib.ListN.{getD, drop};
-ghost use Rattle.byte_parts.specs.Bytes.{ahead, between};
+ghost use Rattle.byte_parts.specs.Bytes.{ahead, between, copied};
 ghost use Rattle.byte_parts.specs.Least.{Least};
 
 // The byte at a place; 0 past the end.
@@ -50,4 +50,16 @@ pub fn least(a: usize, b: usize) -> usize
         return a;
     }
     b
+}
+
+// Copies the first `count` bytes over the front of others, as far as both go; the bytes after them stay.
+pub fn copy(from: &[u8], count: usize, to: &mut [u8])
+    ensures { λ _. ⌜ now (to .exit) ≡ copied (now (from .entry)) count (now (to .entry)) ⌝ }
+{
+    let end = least(least(count, from.len()), to.len());
+    let mut i = 0;
+    while i < end {
+        to[i] = from[i];
+        i += 1;
+    }
 }

@@ -1,4 +1,5 @@
-// The lines, of words and numbers of at most 20 digits. The first line of an accepted book has at most 5 + 3 * 21 = 68 bytes, every other at most 64.
+// The lines, of words and numbers of at most 20 digits. The first line of an accepted book has at most 5 + 3 * 21 = 68 bytes and is lent 72, any other
+// has at most 64.
 ghost use Prim.Native.Nat.{_+_, _≤_};
 ghost use lib.ListN.{length};
 ghost use Rattle.transcript_lines.specs.Lines.{first-line};

@@ -19,12 +19,9 @@ use Rattle.order.specs.Regular.{Regular}
 use Rattle.tables.specs.Tables.{Transition, transitions, numbers}
 use Rattle.base.specs.Result.{Result}
 use Rattle.base.specs.Result.Result.{ok}
-use Rattle.base.specs.ResultLaws.{refused-ok}
 use Rattle.book_format.specs.Format.{read, named}
 use Rattle.book_format.specs.ReadLaws.{read-names, read-some-name, read-few-names}
-use Rattle.book_causes.specs.Ordered.{ordered, Judged}
-use Rattle.book_causes.specs.Ordered.Judged.{has-order, none}
-use Rattle.book_causes.specs.OrderedRun.{ordered-read, ordered-judged}
+use Rattle.book_causes.specs.OrderedRun.{ordered-read, ordered-regular}
 use Rattle.book_causes.specs.Accepted.{states-of, count-of, heads-of, moves-of, built}
 use Rattle.book_causes.specs.AcceptedLaws.{Passed, accepted-passed, built-accepted}
 use Rattle.table_laying.specs.Pieces.{length-numbers, length-roots}

@@ -3,12 +3,13 @@ use mathlib.Core.Bool.{Bool, true, false}
 use mathlib.Core.List.{List}
 use mathlib.Core.Path.{_≡_}
 use Prim.Native.Nat.{ℕ}
-use lib.ListN.{length}
+use lib.ListN.{length, take}
 use Rattle.roles.specs.Role.{Chain}
 use Rattle.roles.specs.Rule.{Book}
 use Rattle.base.specs.Result.{Result, map-result}
 use Rattle.base.specs.Result.Result.{refused, ok}
-use Rattle.book_causes.specs.Accepted.{states-of, count-of, depth-of, heads-of, moves-of, built, written}
+use Rattle.book_causes.specs.Ordered.{ordered}
+use Rattle.book_causes.specs.Accepted.{states-of, count-of, levels-of, depth-of, heads-of, moves-of, built, written}
 use Rattle.query_causes.specs.Query.{Answered}
 use Rattle.query_correctness.specs.Reply.{Replied, posed}
 use Rattle.book_header.specs.declared.Header.{Header}
@@ -43,12 +44,20 @@ pub record Tells (r : Result Numbers) (cause first second third : ℕ) : Type 0 
   pub second-is : second ≡ second-told r
   pub third-is : third ≡ third-told r
 
--- how many names and rules
-abbrev pub header-counts : Header → Numbers
-header-counts h = record { one = h .names; two = h .rules; three = 0 }
+-- how many names and rules, and a depth where one is told
+abbrev pub header-counts : ℕ → Header → Numbers
+header-counts depth h = record { one = h .names; two = h .rules; three = depth }
 
 abbrev pub book-counts : Book → Numbers
 book-counts b = record { one = b .names; two = length (b .rules); three = 0 }
+
+abbrev pub order-counts : Book → Numbers
+order-counts b = record { one = b .names; two = length (b .rules); three = depth-of b }
+
+-- what the order check tells, and the lent levels: as many as are lent, over what they held
+pub record TellsOrder (s l l′ : List ℕ) (cause first second third : ℕ) : Type 0 where
+  pub tells : Tells (map-result order-counts (ordered s)) cause first second third
+  pub levels : l′ ≡ written (ordered s) (λ (b : Book). take (length l) (levels-of b)) l
 
 -- how many states and transitions, and the depth
 abbrev pub built-counts : Counts → Numbers

@@ -1,6 +1,5 @@
 // The calls for programs in C and Rust, as a static library. Each returns the number of the cause that refuses its input, or 0, and stores in the
 // numbers lent to it what it tells: counts or an answer, or what document 01 gives beside the cause.
-ghost use Rattle.book_causes.specs.Ordered.{ordered};
 ghost use Rattle.book_decoder.specs.Verdict.{says};
 ghost use Rattle.book_format.specs.Format.{read};
 ghost use Rattle.base.specs.Result.{map-result};
@@ -9,12 +8,14 @@ ghost use Rattle.refusals.specs.BuildRefusals.{build-cause, build-value};
 ghost use Rattle.query_parts.specs.Answer.{says as answer-says};
 ghost use Rattle.query_deriver.specs.Replies.{says as reply-says};
 ghost use Rattle.table_builder.specs.Builds.{says as outcome-says};
-ghost use Rattle.rabbitsteel.specs.Tells.{Tells, TellsBuild, TellsAnswer, TellsDerived, book-counts, header-counts, built-counts, bit};
+ghost use Rattle.rabbitsteel.specs.Tells.{Tells, TellsOrder, TellsBuild, TellsAnswer, TellsDerived, book-counts, header-counts, built-counts, bit};
 use book_decoder::Verdict;
+use byte_parts::copy;
 use query_answerer::Answer;
 use query_deriver::Reply;
 use refusals::BuildRefusal;
 use table_builder::Outcome;
+use table_limits::names_of;
 
 // What a call tells: the number of the cause, or 0, and three numbers.
 struct Told {
@@ -29,34 +30,46 @@ struct Told {
 pub extern "C" fn rabbitsteel_read(book: &[u8], first: &mut u64, second: &mut u64) -> u64
     ensures { λ r. ⌜ Tells (map-result book-counts (read (now (book .entry)))) r (now (first .exit)) (now (second .exit)) 0 ⌝ }
 {
-    let told = tell_verdict(book_reader::read(book));
+    let told = tell_verdict(book_reader::read(book), 0);
     *first = told.first;
     *second = told.second;
     told.cause
 }
 
-// Causes 1 to 8. Passed: how many names and how many rules the book has. Refused: the value beside the cause, and 0.
+// Causes 1 to 8. Passed: how many names and how many rules the book has, and its depth; the first levels, one to a name, are written, as many as
+// are lent. Refused: the value beside the cause, and 0 twice; the levels are left as they were.
 #[no_mangle]
-pub extern "C" fn rabbitsteel_order(book: &[u8], first: &mut u64, second: &mut u64) -> u64
-    ensures { λ r. ⌜ Tells (map-result book-counts (ordered (now (book .entry)))) r (now (first .exit)) (now (second .exit)) 0 ⌝ }
+pub extern "C" fn rabbitsteel_order(
+    book: &[u8],
+    levels: &mut [u8],
+    first: &mut u64,
+    second: &mut u64,
+    third: &mut u64,
+) -> u64
+    ensures { λ r. ⌜ TellsOrder (now (book .entry)) (now (levels .entry)) (now (levels .exit)) r (now (first .exit)) (now (second .exit))
+        (now (third .exit)) ⌝ }
 {
     let ordering = order_checker::order(book);
     let verdict = ordering.verdict;
-    let told = tell_verdict(verdict);
+    let found = ordering.levels;
+    copy(&found, names_of(verdict), levels);
+    let told = tell_verdict(verdict, ordering.depth);
     *first = told.first;
     *second = told.second;
+    *third = told.third;
     told.cause
 }
 
-fn tell_verdict(verdict: Verdict) -> Told
-    ensures { λ r. ⌜ Tells (map-result header-counts (says verdict)) (r .cause) (r .first) (r .second) (r .third) ⌝ }
+// What a verdict tells, of a book of this depth.
+fn tell_verdict(verdict: Verdict, depth: usize) -> Told
+    ensures { λ r. ⌜ Tells (map-result (header-counts depth) (says verdict)) (r .cause) (r .first) (r .second) (r .third) ⌝ }
 {
     match verdict {
         Verdict::WellFormed(header) => Told {
             cause: 0,
             first: header.names as u64,
             second: header.rules as u64,
-            third: 0,
+            third: depth as u64,
         },
         Verdict::Refused(refusal) => tell_refusal(BuildRefusal::Book(refusal)),
     }

@@ -1,16 +1,11 @@
--- `rabbitsteel_order` meets its contract: what is told of the verdict is told of the judgement that it equals.
+-- `rabbitsteel_order` meets its contract: what is told of the order check's answer is told of the judgement that it equals.
 use borrow.Author.Needs.{needs}
-use Rattle.book_decoder.specs.Verdict.{header-of}
-use Rattle.book_causes.specs.Ordered.{ordered}
-use Rattle.rabbitsteel.specs.Tells.{header-counts}
-use Rattle.rabbitsteel.specs.TellsLaws.{told-of, two-told}
+use Rattle.rabbitsteel.specs.TellsLaws.{tells-order}
 use Rattle.rabbitsteel.proofs.rabbitsteel_order.Statement.{statement}
 use Rattle.rabbitsteel.proofs.rabbitsteel_order.Tie as tie
 
 returns : tie.Need-returns
-returns c =
-    let s = c .before .before .before .args .book .now in
-    two-told (ordered s) (told-of header-of header-counts (ordered s) (c .before .order .ensures .verdict) (c .tell-verdict .ensures))
+returns c = tells-order (c .before .before .before .before .before .before .before .before .order .ensures) (c .before .before .before .before .before .names-of .ensures) (c .before .before .before .copy .ensures) (c .tell-verdict .ensures)
 
 pub rabbitsteel-order-spec : {M : Type 1} → statement M
-rabbitsteel-order-spec = tie.close (tie.spec (λ c κs. search needs) (λ c κs. search needs) returns)
+rabbitsteel-order-spec = tie.close (tie.spec (λ c κs. search needs) (λ c. search needs) (λ c κs. search needs) (λ c κs. search needs) (λ c κs. search needs) (λ c. search needs) returns)

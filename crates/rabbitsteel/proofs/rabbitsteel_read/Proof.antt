@@ -10,7 +10,7 @@ use Rattle.rabbitsteel.proofs.rabbitsteel_read.Tie as tie
 returns : tie.Need-returns
 returns c =
     let s = c .before .before .before .args .book .now in
-    two-told (read s) (told-of header-of header-counts (read s) (c .before .read .ensures) (c .tell-verdict .ensures))
+    two-told (read s) (told-of header-of (header-counts 0) (read s) (c .before .read .ensures) (c .tell-verdict .ensures))
 
 pub rabbitsteel-read-spec : {M : Type 1} → statement M
 rabbitsteel-read-spec = tie.close (tie.spec (λ c κs. search needs) (λ c κs. search needs) returns)
