@@ -1,6 +1,6 @@
 -- Laws of results: what a result without refusal says of the checks before it.
 use mathlib.Core.Bool.{Bool, true, false}
-use mathlib.Core.Path.{_≡_, refl, sym}
+use mathlib.Core.Path.{_≡_, refl}
 use Prim.Native.Nat.{ℕ}
 use native.Mathlib.Omega.{arith}
 use Rattle.base.specs.Result.{Result, demand, and-then, map-result}

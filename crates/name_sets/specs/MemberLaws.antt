@@ -1,5 +1,5 @@
 -- Names in and out of sets: a name read by a shift, the set of one name, what two sets share, a name taken out, and the lowest name.
-use mathlib.Core.Bool.{Bool, true, false, cond, _&&_, true≢false}
+use mathlib.Core.Bool.{true, false, _&&_, true≢false}
 use mathlib.Core.Logic.{_⊎_, inl, inr}
 use mathlib.Core.Path.{_≡_, refl, sym, ap, _∙_}
 use Prim.Native.Nat.{ℕ, zero, suc, _+_, _*_, _/_, _%_, _^_, _<_, _≤_}
@@ -8,11 +8,11 @@ use native.Mathlib.Omega.{arith}
 use borrow.Author.Tests.{eq-eqb, ne-eqb, lt-ltb, le-ltb}
 use lib.Bits.{bitAnd, bitXor, and-mask, and-shr, and-mod, xor-shr, xor-mod}
 use lib.Count.{trailingZeros, under}
-use lib.Dec.{eqb, ltb, lit<}
+use lib.Dec.{eqb, lit<}
 use lib.Pow.{pow-mono, shl-exact, shr-lt}
-use Rattle.base.specs.Truth.{eq-or-ne, lt-or-le}
+use Rattle.base.specs.Truth.{eq-or-ne}
 use Rattle.name_sets.specs.Mask.{has, only, count}
-use Rattle.name_sets.specs.MaskLaws.{has-zero, has-single, has-half, count-lt}
+use Rattle.name_sets.specs.MaskLaws.{has-single, has-half, count-lt}
 
 pub has-shift : (m y : ℕ) → eqb (bitAnd (m / 2 ^ y) 1) 1 ≡ has m y
 unfolding has

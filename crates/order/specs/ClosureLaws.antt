@@ -14,7 +14,7 @@ use Rattle.order.specs.Shape.Shape.{transitive, symmetric, row}
 use Rattle.order.specs.ShapeLaws.{View, view}
 use Rattle.order.specs.ShapeLaws.View.{is-transitive, is-symmetric, is-led, is-trailed, is-plain}
 use Rattle.order.specs.Regular.{holds}
-use Rattle.order.specs.Leveled.{Lower, NameOrder}
+use Rattle.order.specs.Leveled.{AllInner, Lower, NameOrder}
 use Rattle.order.specs.Closure.{inner-of, reaches, no-order, with-inner, with-rule, clashes}
 
 -- what the rules force: an inner name is lower than the right name, and so on along
@@ -22,14 +22,26 @@ pub data Forced (ρs : List Rule) : ℕ → ℕ → Type 0 where
   edge : (ρ : Rule) → List·Memᴰ ρ ρs → (s : ℕ) → List·Memᴰ s (inner-of (shape ρ)) → Forced ρs (name s) (name (ρ .right))
   along : (x y z : ℕ) → Forced ρs x y → Forced ρs y z → Forced ρs x z
 
--- what is forced holds in every order
-inner-lower {ℓ} : (lower : ℕ → ℕ → Type ℓ) (x : ℕ) (sh : Shape) → Lower lower x sh → (s : ℕ) → List·Memᴰ s (inner-of sh) → lower (name s) x
-inner-lower lower x transitive l s m = absurd (List·Memᴰ·not-nil m)
-inner-lower lower x symmetric l s m = absurd (List·Memᴰ·not-nil m)
-inner-lower lower x (row from to inner) l s m = l .1 s m
+-- the inner roles of a rule are among its left roles
+pub inner-left : (ρ : Rule) (s : ℕ) → List·Memᴰ s (inner-of (shape ρ)) → List·Memᴰ s (ρ .left)
+inner-left ρ s = by-view (view ρ)
+  where
+    by-view : {sh : Shape} → View ρ sh → List·Memᴰ s (inner-of sh) → List·Memᴰ s (ρ .left)
+    by-view (is-transitive e) m = absurd (List·Memᴰ·not-nil m)
+    by-view (is-symmetric e) m = absurd (List·Memᴰ·not-nil m)
+    by-view (is-led inner e some x) m = rw e (List·Memᴰ·tail m)
+    by-view (is-trailed inner e some x y) m = rw e (Memᴰ·append-left (ρ .right ∷ []) m)
+    by-view (is-plain x y z w) m = m
 
+-- and each is as all of them are
+pub inner-each {ℓ} : (P : ℕ → Type ℓ) (sh : Shape) → AllInner P sh → (s : ℕ) → List·Memᴰ s (inner-of sh) → P s
+inner-each P transitive a s m = absurd (List·Memᴰ·not-nil m)
+inner-each P symmetric a s m = absurd (List·Memᴰ·not-nil m)
+inner-each P (row from to inner) a s m = a .1 s m
+
+-- what is forced holds in every order
 pub forced-lower {ℓ} : (lower : ℕ → ℕ → Type ℓ) (ρs : List Rule) → NameOrder lower ρs → {y z : ℕ} → Forced ρs y z → lower y z
-forced-lower lower ρs o (edge ρ m s i) = inner-lower lower (name (ρ .right)) (shape ρ) (o .inner ρ m) s i
+forced-lower lower ρs o (edge ρ m s i) = inner-each (λ t. lower (name t) (name (ρ .right))) (shape ρ) (o .inner ρ m) s i
 forced-lower lower ρs o (along x y z p q) = o .transitive x y z (forced-lower lower ρs o p) (forced-lower lower ρs o q)
 
 forced-more : (ρs τs : List Rule) {y z : ℕ} → Forced ρs y z → Forced (ρs ++ τs) y z

@@ -4,9 +4,9 @@
 use mathlib.Core.Bool.{Bool, true, false, cond}
 use mathlib.Core.List.{List, [], _∷_, _++_, map, List·Memᴰ, List·Memᴰ·head, List·Memᴰ·tail, List·Memᴰ·cases-cons, List·Memᴰ·not-nil, List·Memᴰ·append-cases, Memᴰ·append-left, Memᴰ·append-right}
 use mathlib.Core.Logic.{_⊎_, inl, inr}
-use mathlib.Core.Path.{_≡_, refl, sym, ap, ap₂, _∙_, subst}
+use mathlib.Core.Path.{_≡_, refl, ap, ap₂, _∙_, subst}
 use Prim.Native.Nat.{ℕ, zero, suc, _+_, _-_, _*_, _<_, _≤_, max}
-use native.Mathlib.Nat.{le-max-left, le-max-right, max-le, max-eq-left, max-eq-right}
+use native.Mathlib.Nat.{le-max-left, le-max-right, max-eq-left, max-eq-right}
 use native.Mathlib.Omega.{arith}
 use borrow.Author.Tests.{eqb-true, eq-eqb}
 use lib.Dec.{eqb}
@@ -21,10 +21,10 @@ use Rattle.order.specs.Shape.Shape.{transitive, symmetric, row}
 use Rattle.order.specs.Regular.{holds, Regular}
 use Rattle.order.specs.Leveled.{Lower, Fits, Leveled}
 use Rattle.order.specs.Closure.{inner-of}
-use Rattle.order.specs.ClosureLaws.{Closed, Forced, forced-lower}
+use Rattle.order.specs.ClosureLaws.{Closed, Forced, forced-lower, inner-left}
 use Rattle.order.specs.ClosureLaws.Forced.{edge, along}
 use Rattle.order.specs.Regularity.{regular-closed}
-use Rattle.order.specs.LeveledLaws.{inner-left, rank-lower, rank-small}
+use Rattle.order.specs.RankLaws.{rank-lower, rank-small}
 use Rattle.order.specs.Depth.{inner-roles, highest, level-of, levels-from, level, levels, depth}
 use Rattle.order.specs.Longest.{Longest, longest-some, longest-least}
 
@@ -171,8 +171,8 @@ module _ (n : ℕ) (ρs : List Rule) (named : Named n ρs) where
         ap suc
         (highest-same (λ s. level-of ρs d (name s)) (λ s. level-of ρs e (name s)) (inner-roles ρs x)
         (λ s m.
-            let r = rank-rises (name s) x (inner-forced x s m) in
-            fuel-enough d e (name s) (omega arith) (omega arith)))
+        let r = rank-rises (name s) x (inner-forced x s m) in
+        fuel-enough d e (name s) (omega arith) (omega arith)))
 
     -- document 02's sentence
     pub level-sentence : (x : ℕ) → x < n → level n ρs x ≡ suc (highest (map (λ s. level n ρs (name s)) (inner-roles ρs x)))
@@ -185,15 +185,23 @@ module _ (n : ℕ) (ρs : List Rule) (named : Named n ρs) where
         (omega (arith, highest-of (λ t. level n ρs (name t)) (inner-roles ρs (name (ρ .right))) s (inner-member ρs ρ m s i)))
     level-rises y x (along u v w p q) = omega (arith, level-rises u v p, level-rises v w q)
 
+    -- a level is 1, or 1 more than that of an inner role's name
+    pub level-step : (x : ℕ) → x < n → (level n ρs x ≡ 1) ⊎ ((s : ℕ) × List·Memᴰ s (inner-roles ρs x) × (level n ρs x ≡ suc (level n ρs (name s))))
+    level-step x p = by-inner (highest-one (λ s. level n ρs (name s)) (inner-roles ρs x))
+      where
+        by-inner : (highest (map (λ s. level n ρs (name s)) (inner-roles ρs x)) ≡ 0) ⊎ ((s : ℕ) × List·Memᴰ s (inner-roles ρs x) × (highest (map (λ s. level n ρs (name s)) (inner-roles ρs x)) ≡ level n ρs (name s)))
+            → (level n ρs x ≡ 1) ⊎ ((s : ℕ) × List·Memᴰ s (inner-roles ρs x) × (level n ρs x ≡ suc (level n ρs (name s))))
+        by-inner (inl e) = inl (level-sentence x p ∙ ap suc e)
+        by-inner (inr r) = inr (r .0, r .1, level-sentence x p ∙ ap suc (r .2))
+
     -- the longest way down in the forced order
     pub levels-longest : Longest n (Forced ρs) (level n ρs)
-    levels-longest = record { rises = level-rises; reached = λ x p. by-inner x p (highest-one (λ s. level n ρs (name s)) (inner-roles ρs x)) }
+    levels-longest = record { rises = level-rises; reached = λ x p. by-step x (level-step x p) }
       where
-        by-inner : (x : ℕ) → x < n
-            → (highest (map (λ s. level n ρs (name s)) (inner-roles ρs x)) ≡ 0) ⊎ ((s : ℕ) × List·Memᴰ s (inner-roles ρs x) × (highest (map (λ s. level n ρs (name s)) (inner-roles ρs x)) ≡ level n ρs (name s)))
+        by-step : (x : ℕ) → (level n ρs x ≡ 1) ⊎ ((s : ℕ) × List·Memᴰ s (inner-roles ρs x) × (level n ρs x ≡ suc (level n ρs (name s))))
             → (level n ρs x ≡ 1) ⊎ ((y : ℕ) × (y < n) × Forced ρs y x × (level n ρs x ≡ suc (level n ρs y)))
-        by-inner x p (inl e) = inl (level-sentence x p ∙ ap suc e)
-        by-inner x p (inr r) = let f = inner-forced x (r .0) (r .1) in inr (name (r .0), forced-low f, f, level-sentence x p ∙ ap suc (r .2))
+        by-step x (inl e) = inl e
+        by-step x (inr r) = let f = inner-forced x (r .0) (r .1) in inr (name (r .0), forced-low f, f, r .2)
 
     pub level-some : (x : ℕ) → x < n → 1 ≤ level n ρs x
     level-some = longest-some levels-longest

@@ -7,11 +7,15 @@ use Rattle.roles.specs.Rule.{Rule}
 use Rattle.order.specs.Shape.{Shape, shape}
 use Rattle.order.specs.Shape.Shape.{transitive, symmetric, row}
 
--- the inner roles of a shape are some, and their names lower than x
+-- the inner roles of a row are some, and each is as P says
+abbrev pub AllInner {ℓ} : (ℕ → Type ℓ) → Shape → Type ℓ
+AllInner P transitive = Unit
+AllInner P symmetric = Unit
+AllInner P (row from to inner) = (inner ≡ [] → ⊥) × ((s : ℕ) → List·Memᴰ s inner → P s)
+
+-- their names are lower than x
 abbrev pub Lower {ℓ} : (ℕ → ℕ → Type ℓ) → ℕ → Shape → Type ℓ
-Lower lower x transitive = Unit
-Lower lower x symmetric = Unit
-Lower lower x (row from to inner) = (inner ≡ [] → ⊥) × ((s : ℕ) → List·Memᴰ s inner → lower (name s) x)
+Lower lower x sh = AllInner (λ (s : ℕ). lower (name s) x) sh
 
 -- an irreflexive, transitive relation on names, under which the inner names of each rule are lower than its right name
 pub record NameOrder {ℓ} (lower : ℕ → ℕ → Type ℓ) (ρs : List Rule) : Type ℓ where

@@ -8,7 +8,8 @@ pub mod Closure
 pub mod Depth
 pub mod ClosureLaws
 pub mod Regularity
-pub mod LeveledLaws
+pub mod RankLaws
 pub mod Longest
 pub mod DepthLaws
+pub mod LeastOrder
 pub mod ShapeTests

@@ -51,3 +51,7 @@ pub record Regular001 (ρs : List Rule) : Type 0 where
   pub below : ℕ → ℕ → Bool
   pub order : RegularOrder001 (holds below)
   pub forms : Forms (holds below) ρs
+
+-- document 000's least order: s is below r in all regular orders under which each rule has one of the forms
+abbrev pub Least : List Rule → ℕ → ℕ → Type 0
+Least ρs s r = (below : ℕ → ℕ → Bool) → RegularOrder (holds below) → Forms (holds below) ρs → holds below s r

@@ -6,17 +6,22 @@ use Prim.Native.Nat.{ℕ}
 use Rattle.roles.specs.Role.{Chain, name, inv}
 use Rattle.roles.specs.RoleLaws.{inv-inv, name-inv, same-name}
 use Rattle.roles.specs.Rule.{Rule}
-use Rattle.order.specs.Shape.{Shape}
-use Rattle.order.specs.Shape.Shape.{transitive}
+use Rattle.order.specs.Shape.{Shape, shape}
+use Rattle.order.specs.Shape.Shape.{transitive, symmetric, row}
 use Rattle.order.specs.ShapeLaws.{View, view}
 use Rattle.order.specs.ShapeLaws.View.{is-transitive, is-symmetric, is-led, is-trailed, is-plain}
 use Rattle.order.specs.Regular.{RegularOrder, RegularOrder001, Inner, Form, Forms}
 use Rattle.order.specs.Regular.Form.{form1, form2, form3, form4, form5}
-use Rattle.order.specs.Leveled.{Lower, NameOrder}
+use Rattle.order.specs.Leveled.{AllInner, Lower, NameOrder}
 
 -- a name is lower than another where a role of the one is below a role of the other
 abbrev pub lower-of {ℓ} : (ℕ → ℕ → Type ℓ) → ℕ → ℕ → Type ℓ
 lower-of below y x = (s : ℕ) × (r : ℕ) × (name s ≡ y) × (name r ≡ x) × below s r
+
+all-inner {ℓ ℓ′} : {P : ℕ → Type ℓ} {Q : ℕ → Type ℓ′} → ((s : ℕ) → P s → Q s) → (sh : Shape) → AllInner P sh → AllInner Q sh
+all-inner f transitive a = tt
+all-inner f symmetric a = tt
+all-inner f (row from to inner) a = (a .0, λ s m. f s (a .1 s m))
 
 -- what both papers' orders have in common
 pub record Turning {ℓ} (below : ℕ → ℕ → Type ℓ) : Type ℓ where
@@ -54,11 +59,8 @@ module _ {ℓ} (below : ℕ → ℕ → Type ℓ) where
     own : (r : ℕ) (w : Chain) → Inner below r w → List·Memᴰ r w → ⊥
     own r w i m = o .apart r r refl (i .lower r m)
 
-    lift : (r : ℕ) (w v : Chain) → v ≡ w → Inner below r w → (v ≡ [] → ⊥) × ((s : ℕ) → List·Memᴰ s v → lower-of below (name s) (name r))
-    lift r w v e i = (
-      λ q. i .some (sym e ∙ q),
-      λ s m. (s, r, refl, refl, i .lower s (subst (λ (l : Chain). List·Memᴰ s l) e m)),
-    )
+    lift : (r : ℕ) (w v : Chain) → v ≡ w → Inner below r w → (v ≡ [] → ⊥) × ((s : ℕ) → List·Memᴰ s v → below s r)
+    lift r w v e i = (λ q. i .some (sym e ∙ q), λ s m. i .lower s (subst (λ (l : Chain). List·Memᴰ s l) e m))
 
     first : (r : ℕ) (inner w : Chain) → Inner below r inner → inner ++ (r ∷ []) ≡ r ∷ w → ⊥
     first r [] w i e = i .some refl
@@ -68,25 +70,25 @@ module _ {ℓ} (below : ℕ → ℕ → Type ℓ) where
     one r t [] h e = h refl
     one r t (x ∷ v) h e = concat-ne-nil r v (tail-eq-of-cons-eq e)
 
-    form-lower : (ρ : Rule) {sh : Shape} → View ρ sh → Form below ρ → Lower (lower-of below) (name (ρ .right)) sh
-    form-lower ρ (is-transitive e) f = tt
-    form-lower ρ (is-symmetric e) f = tt
-    form-lower ρ (is-led inner e some a) (form1 i) = absurd (own (ρ .right) (ρ .left) i (subst (λ (l : Chain). List·Memᴰ (ρ .right) l) (sym e) (List·Memᴰ·head refl)))
-    form-lower ρ (is-led inner e some a) (form2 w q i) = lift (ρ .right) w inner (tail-eq-of-cons-eq (sym e ∙ q)) i
-    form-lower ρ (is-led inner e some a) (form3 w q i) = absurd (first (ρ .right) w inner i (sym q ∙ e))
-    form-lower ρ (is-led inner e some a) (form4 q) = absurd (a q)
-    form-lower ρ (is-led inner e some a) (form5 q) = absurd (some (tail-eq-of-cons-eq (sym e ∙ q)))
-    form-lower ρ (is-trailed inner e some a c) (form1 i) =
+    pub form-inner : (ρ : Rule) {sh : Shape} → View ρ sh → Form below ρ → AllInner (λ (s : ℕ). below s (ρ .right)) sh
+    form-inner ρ (is-transitive e) f = tt
+    form-inner ρ (is-symmetric e) f = tt
+    form-inner ρ (is-led inner e some a) (form1 i) = absurd (own (ρ .right) (ρ .left) i (subst (λ (l : Chain). List·Memᴰ (ρ .right) l) (sym e) (List·Memᴰ·head refl)))
+    form-inner ρ (is-led inner e some a) (form2 w q i) = lift (ρ .right) w inner (tail-eq-of-cons-eq (sym e ∙ q)) i
+    form-inner ρ (is-led inner e some a) (form3 w q i) = absurd (first (ρ .right) w inner i (sym q ∙ e))
+    form-inner ρ (is-led inner e some a) (form4 q) = absurd (a q)
+    form-inner ρ (is-led inner e some a) (form5 q) = absurd (some (tail-eq-of-cons-eq (sym e ∙ q)))
+    form-inner ρ (is-trailed inner e some a c) (form1 i) =
         absurd (own (ρ .right) (ρ .left) i (subst (λ (l : Chain). List·Memᴰ (ρ .right) l) (sym e) (Memᴰ·append-right inner (List·Memᴰ·head refl))))
-    form-lower ρ (is-trailed inner e some a c) (form2 w q i) = absurd (c w (i .some) q)
-    form-lower ρ (is-trailed inner e some a c) (form3 w q i) = lift (ρ .right) w inner (append-cancel-right inner w (ρ .right ∷ []) (sym e ∙ q)) i
-    form-lower ρ (is-trailed inner e some a c) (form4 q) = absurd (a q)
-    form-lower ρ (is-trailed inner e some a c) (form5 q) = absurd (one (ρ .right) (inv (ρ .right)) inner some (sym e ∙ q))
-    form-lower ρ (is-plain a b c d) (form1 i) = lift (ρ .right) (ρ .left) (ρ .left) refl i
-    form-lower ρ (is-plain a b c d) (form2 w q i) = absurd (c w (i .some) q)
-    form-lower ρ (is-plain a b c d) (form3 w q i) = absurd (d w (i .some) q)
-    form-lower ρ (is-plain a b c d) (form4 q) = absurd (a q)
-    form-lower ρ (is-plain a b c d) (form5 q) = absurd (b q)
+    form-inner ρ (is-trailed inner e some a c) (form2 w q i) = absurd (c w (i .some) q)
+    form-inner ρ (is-trailed inner e some a c) (form3 w q i) = lift (ρ .right) w inner (append-cancel-right inner w (ρ .right ∷ []) (sym e ∙ q)) i
+    form-inner ρ (is-trailed inner e some a c) (form4 q) = absurd (a q)
+    form-inner ρ (is-trailed inner e some a c) (form5 q) = absurd (one (ρ .right) (inv (ρ .right)) inner some (sym e ∙ q))
+    form-inner ρ (is-plain a b c d) (form1 i) = lift (ρ .right) (ρ .left) (ρ .left) refl i
+    form-inner ρ (is-plain a b c d) (form2 w q i) = absurd (c w (i .some) q)
+    form-inner ρ (is-plain a b c d) (form3 w q i) = absurd (d w (i .some) q)
+    form-inner ρ (is-plain a b c d) (form4 q) = absurd (a q)
+    form-inner ρ (is-plain a b c d) (form5 q) = absurd (b q)
 
     pub name-order : (ρs : List Rule) → Forms below ρs → NameOrder (lower-of below) ρs
     name-order ρs f =
@@ -95,7 +97,7 @@ module _ {ℓ} (below : ℕ → ℕ → Type ℓ) where
           transitive = λ x y z l m.
               let j = o .joined (l .0) (l .1) (m .0) (m .1) (l .3 ∙ sym (m .2)) (l .4) (m .4) in
               (l .0, j .0, l .2, j .1 ∙ m .3, j .2);
-          inner = λ ρ m. form-lower ρ (view ρ) (f ρ m);
+          inner = λ ρ m. all-inner (λ (s : ℕ) (b : below s (ρ .right)). (s, ρ .right, refl, refl, b)) (shape ρ) (form-inner ρ (view ρ) (f ρ m));
         }
 
 -- an order on names, as one on roles: it is regular in both senses

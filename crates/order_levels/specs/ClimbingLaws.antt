@@ -6,13 +6,13 @@ use mathlib.Core.Path.{_≡_, refl, sym, ap, _∙_, subst}
 use Prim.Native.Nat.{ℕ, suc, _+_, _-_, _^_, _<_, _≤_, max}
 use native.Mathlib.Nat.{le-antisymm, le-max-left, le-max-right, max-le, max-eq-left, max-eq-right}
 use native.Mathlib.Omega.{arith}
-use borrow.Author.Tests.{eqb-true, eqb-false, ltb-true, ltb-false, eq-eqb, ne-eqb, lt-ltb, le-ltb}
+use borrow.Author.Tests.{eqb-true, ltb-true, eq-eqb, ne-eqb, lt-ltb, le-ltb}
 use lib.Bits.{bitAnd, bitOr, bitXor}
-use lib.Count.{ones, trailingZeros}
-use lib.Dec.{eqb, ltb, lit<}
+use lib.Count.{trailingZeros}
+use lib.Dec.{eqb, ltb}
 use lib.ListN.{length, getD, set, take, replicate, length-set, length-replicate, getD-replicate, List·getD-eq-default}
 use lib.Seq.{take-all, take-length, getD-set-same, getD-set-other}
-use Rattle.base.specs.Truth.{and-left, and-right, and-intro, or-cases, or-left, or-right, eq-or-ne, lt-or-le, not-true-false, true-or-false}
+use Rattle.base.specs.Truth.{and-left, and-right, and-intro, or-cases, or-left, or-right, eq-or-ne, lt-or-le, not-true-false}
 use Rattle.byte_parts.specs.Least.{Least}
 use Rattle.name_sets.specs.Mask.{has}
 use Rattle.name_sets.specs.MaskLaws.{has-zero, has-or, has-single, count-most}

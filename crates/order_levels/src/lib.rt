@@ -6,7 +6,6 @@ ghost use lib.ListN.{length, replicate};
 ghost use Rattle.name_sets.specs.Mask.{has};
 ghost use Rattle.order_levels.specs.Levels.{LeveledBy, Climbs};
 ghost use Rattle.order_levels.specs.Climbing.{Ranked, Climbed-rank, Meets, Climbed};
-
 use byte_parts::least;
 use name_sets::single;
 
@@ -50,13 +49,7 @@ fn rank(masks: &[u64], ranks: &mut [u64]) -> usize
 }
 
 // Walks over the names, rank by rank, and puts each in its tier: tier k has the names of level k + 1. Returns the highest level.
-fn climb(
-    masks: &[u64],
-    ranks: &[u64],
-    top: usize,
-    tiers: &mut [u64],
-    levels: &mut [u8],
-) -> usize
+fn climb(masks: &[u64], ranks: &[u64], top: usize, tiers: &mut [u64], levels: &mut [u8]) -> usize
     requires { ⌜ (length (now masks) ≤ 64) × Ranked (now masks) (length (now masks)) (now ranks) top ⌝ }
     requires { ⌜ (now tiers ≡ replicate 65 0) × (now levels ≡ replicate 64 0) ⌝ }
     ensures { λ r. ⌜ LeveledBy (now (masks .entry)) (now (levels .exit)) r ⌝ }
@@ -65,8 +58,9 @@ fn climb(
     let mut walked = 0;
     let mut c = 0;
     while c < top {
-        depth = climb_rank(masks, ranks[c], walked, tiers, levels, depth);
-        walked = walked | ranks[c];
+        let names = ranks[c];
+        depth = climb_rank(masks, names, walked, tiers, levels, depth);
+        walked = walked | names;
         c += 1;
     }
     depth

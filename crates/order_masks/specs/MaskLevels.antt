@@ -1,5 +1,5 @@
 -- Levels found by masks that hold the gathered order are those of the rules.
-use mathlib.Core.Bool.{Bool, true}
+use mathlib.Core.Bool.{Bool}
 use mathlib.Core.List.{List}
 use mathlib.Core.Logic.{_⊎_, inl, inr}
 use mathlib.Core.Path.{_≡_, sym, ap, _∙_}
@@ -17,7 +17,7 @@ use Rattle.name_sets.specs.Mask.{has, Holds, count}
 use Rattle.name_sets.specs.MaskLaws.{count-same}
 use Rattle.order.specs.Regular.{holds}
 use Rattle.order.specs.ClosureLaws.{Closed, Forced, forced-lower}
-use Rattle.order.specs.LeveledLaws.{rank-lower}
+use Rattle.order.specs.RankLaws.{rank-lower}
 use Rattle.order.specs.Depth.{highest, level, levels, depth}
 use Rattle.order.specs.DepthLaws.{forced-low, forced-high, levels-length, levels-at, levels-longest, highest-at, highest-met}
 use Rattle.order.specs.Longest.{Longest, longest-one}

@@ -17,7 +17,6 @@ use Rattle.roles.specs.Derivation.{Derives}
 use Rattle.base.specs.Truth.{eq-or-ne}
 use Rattle.order.specs.Regular.{Regular}
 use Rattle.tables.specs.Tables.{Transition, transitions, numbers}
-use Rattle.base.specs.Result.{Result}
 use Rattle.base.specs.Result.Result.{ok}
 use Rattle.book_format.specs.Format.{read, named}
 use Rattle.book_format.specs.ReadLaws.{read-names, read-some-name, read-few-names}

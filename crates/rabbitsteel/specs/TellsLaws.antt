@@ -83,8 +83,8 @@ one-told (ok true) t = record { cause-is = t .cause-is; first-is = t .first-is; 
 one-told (ok false) t = record { cause-is = t .cause-is; first-is = t .first-is; second-is = refl; third-is = refl }
 
 module _ {s h m h′ m′ : List ℕ} where
-  pub tells-build : {o : Outcome} {cause one two three : ℕ} → builder.Builds s h m h′ m′ o → Tells (map-result built-counts (builder.says o)) cause one two three
-      → TellsBuild s h m h′ m′ cause one two three
+  pub tells-build : {o : Outcome} {cause one two three : ℕ} → builder.Builds s h m h′ m′ o
+      → Tells (map-result built-counts (builder.says o)) cause one two three → TellsBuild s h m h′ m′ cause one two three
   tells-build b t =
       record {
         tells = told-of builder.counts-of built-counts (built s (length h) (length m)) (b .answer) t;

@@ -13,7 +13,7 @@ use Rattle.order.specs.Shape.{End, Shape, shape}
 use Rattle.order.specs.Shape.Shape.{transitive, symmetric, row}
 use Rattle.order.specs.Closure.{inner-of}
 use Rattle.order.specs.Leveled.{Fits}
-use Rattle.order.specs.LeveledLaws.{inner-left}
+use Rattle.order.specs.ClosureLaws.{inner-left}
 use Rattle.tables.specs.Tables.{Transition, state, row-size, rows-size, row-transitions, rows-transitions}
 use Rattle.table_laying.specs.Laid.{Laid, laid-none, laid-rows, laid-rows-end}
 use Rattle.rule_index.specs.RuleLinks.{rule, rule-member}

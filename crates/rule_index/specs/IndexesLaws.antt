@@ -8,7 +8,7 @@ use Rattle.roles.specs.Role.{name}
 use Rattle.roles.specs.Rule.{Rule, Book}
 use Rattle.roles.specs.Named.{Named}
 use Rattle.order.specs.Shape.{shape}
-use Rattle.order.specs.LeveledLaws.{inner-left}
+use Rattle.order.specs.ClosureLaws.{inner-left}
 use Rattle.base.specs.Result.{Result, map-result}
 use Rattle.base.specs.Result.Result.{refused, ok}
 use Rattle.base.specs.ResultLaws.{refused-ok, ok-injective}

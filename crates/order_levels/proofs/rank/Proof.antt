@@ -18,63 +18,10 @@ Inv-loop masks ranks₀ top₀ x₀ ranks top x = (x ≤ length masks) × Ranked
 abbrev μ-loop : tie.MeasureT-loop
 μ-loop masks ranks₀ top₀ x₀ ranks top x = length masks - x
 
--- src/lib.rt:43:5
-loop-holds : tie.Need-loop-holds Inv-loop μ-loop
-loop-holds c = (omega arith, ranked-none (c .before .before .pre .1))
-
--- src/lib.rt:44:33
-mul-c : tie.Need-mul-c Inv-loop μ-loop
-mul-c c = search needs
-
--- src/lib.rt:44:33
-shared-slice-read-c : tie.Need-shared-slice-read-c Inv-loop μ-loop
-shared-slice-read-c c = search needs
-
 -- a mask has 64 names at most, and as many as its rank
 few : (c : tie.After-shared-slice-known2 Inv-loop μ-loop) → ones (getD (c .before .before .before .before .before .args .masks .now) (c .before .before .loop .x) 0) ≤ 64
 few c = ones-le 64 _ (c .shared-slice-known2 .given (c .before .before .loop .x) .fits)
 
--- src/lib.rt:44:17
-cast-c : tie.Need-cast-c Inv-loop μ-loop
-cast-c c = omega (arith, few c)
-
--- src/lib.rt:45:20
-mul-ranks : tie.Need-mul-ranks Inv-loop μ-loop
-mul-ranks c = omega (arith, few c)
-
--- src/lib.rt:45:20
-slice-read-ranks : tie.Need-slice-read-ranks Inv-loop μ-loop
-slice-read-ranks c = omega (arith, few (c .before), c .before .before .before .loop .inv .1 .size)
-
--- src/lib.rt:45:31
-single-requires : tie.Need-single-requires Inv-loop μ-loop
-single-requires c κs = search needs
-
--- src/lib.rt:45:9
-mul-ranks-2 : tie.Need-mul-ranks-2 Inv-loop μ-loop
-mul-ranks-2 c = omega (arith, few (c .before .before))
-
--- src/lib.rt:45:9
-slice-write-ranks : tie.Need-slice-write-ranks Inv-loop μ-loop
-slice-write-ranks c = omega (arith, few (c .before .before), c .before .before .before .before .loop .inv .1 .size)
-
--- src/lib.rt:46:28
-add-greater : tie.Need-add-greater Inv-loop μ-loop
-add-greater c = omega (arith, few (c .before .before))
-
--- src/lib.rt:46:9
-greater-requires : tie.Need-greater-requires Inv-loop μ-loop
-greater-requires c κs = search needs
-
--- src/lib.rt:47:9
-add-x : tie.Need-add-x Inv-loop μ-loop
-add-x c = search needs
-
--- src/lib.rt:43:5
-loop-less : tie.Need-loop-less Inv-loop μ-loop
-loop-less c = search needs
-
--- src/lib.rt:43:5
 loop-again : tie.Need-loop-again Inv-loop μ-loop
 loop-again c =
     let at-read = c .before .before .before in
@@ -83,11 +30,6 @@ loop-again c =
     rw (c .greater .ensures, c .before .single .ensures, only-named _ x-small)
     (omega arith, ranked-next x-small (ones-count 64 _ (at-read .shared-slice-known2 .given (at-loop .loop .x) .fits)) (omega (arith, few at-read)) (at-loop .loop .inv .1))
 
--- src/lib.rt:37:1
-same-length : tie.Need-same-length Inv-loop μ-loop
-same-length c = search needs
-
--- src/lib.rt:37:1
 returns : tie.Need-returns Inv-loop μ-loop
 returns c = let e : length (c .before .before .before .before .args .masks .now) ≡ c .before .loop .x = omega arith in rw e (c .before .loop .inv .1)
 
@@ -97,19 +39,19 @@ rank-spec =
     (tie.spec
     Inv-loop
     μ-loop
-    loop-holds
-    mul-c
-    shared-slice-read-c
-    cast-c
-    mul-ranks
-    slice-read-ranks
-    single-requires
-    mul-ranks-2
-    slice-write-ranks
-    add-greater
-    greater-requires
-    add-x
-    loop-less
+    (λ c. (omega arith, ranked-none (c .before .before .pre .1)))
+    (λ c. search needs)
+    (λ c. search needs)
+    (λ c. omega (arith, few c))
+    (λ c. omega (arith, few c))
+    (λ c. omega (arith, few (c .before), c .before .before .before .loop .inv .1 .size))
+    (λ c κs. search needs)
+    (λ c. omega (arith, few (c .before .before)))
+    (λ c. omega (arith, few (c .before .before), c .before .before .before .before .loop .inv .1 .size))
+    (λ c. omega (arith, few (c .before .before)))
+    (λ c κs. search needs)
+    (λ c. search needs)
+    (λ c. search needs)
     loop-again
-    same-length
+    (λ c. search needs)
     returns)
