@@ -366,9 +366,9 @@ pub ready-none : {masks : List ℕ} → Ready masks 0 0
 ready-none {masks} = record { lower = λ x p. has-zero x ∙ rw (le-ltb (rank masks x) 0 (omega arith), and-false) refl }
 
 module _ {masks ranks : List ℕ} {top walked c : ℕ} (r : Ranked masks (length masks) ranks top) (w : Ready masks walked c) where
-  module _ (p : c < top) where
+  module _ (p : c < 65) where
     pub rank-ready : Climbed-rank masks (getD ranks c 0) walked c
-    rank-ready = record { own = λ x q. r .sets c x (omega (arith, r .few)) q; before = w }
+    rank-ready = record { own = λ x q. r .sets c x p q; before = w }
 
     pub ready-next : Ready masks (bitOr walked (getD ranks c 0)) (c + 1)
     ready-next =
@@ -376,7 +376,7 @@ module _ {masks ranks : List ℕ} {top walked c : ℕ} (r : Ranked masks (length
           lower =
               λ x q.
               has-or walked (getD ranks c 0) x
-              ∙ rw (w .lower x q, r .sets c x (omega (arith, r .few)) q) (by-test x (ltb x (length masks)));
+              ∙ rw (w .lower x q, r .sets c x p q) (by-test x (ltb x (length masks)));
         }
       where
         by-order : (x : ℕ) → (rank masks x < c) ⊎ (c ≤ rank masks x) → (rank masks x ≡ c) ⊎ (rank masks x ≡ c → ⊥)

@@ -1,11 +1,11 @@
 // Levels of names by the longest way down, from masks: mask x is the set of the names below name x.
 ghost use mathlib.Core.Path.{_≡_};
-ghost use Prim.Native.Nat.{ℕ, max, _≤_};
+ghost use Prim.Native.Nat.{ℕ, max, _<_, _≤_};
 ghost use lib.Bits.{bitOr};
-ghost use lib.ListN.{length, replicate};
+ghost use lib.ListN.{length, getD, replicate};
 ghost use Rattle.name_sets.specs.Mask.{has};
 ghost use Rattle.order_levels.specs.Levels.{LeveledBy, Climbs};
-ghost use Rattle.order_levels.specs.Climbing.{Ranked, Climbed-rank, Meets, Climbed};
+ghost use Rattle.order_levels.specs.Climbing.{Ranked, Ready, Meets, Climbed};
 use byte_parts::least;
 use name_sets::single;
 
@@ -58,29 +58,30 @@ fn climb(masks: &[u64], ranks: &[u64], top: usize, tiers: &mut [u64], levels: &m
     let mut walked = 0;
     let mut c = 0;
     while c < top {
-        let names = ranks[c];
-        depth = climb_rank(masks, names, walked, tiers, levels, depth);
-        walked = walked | names;
+        depth = climb_rank(masks, ranks, c, walked, tiers, levels, depth);
+        walked = walked | ranks[c];
         c += 1;
     }
     depth
 }
 
-// Puts the names of one rank in their tiers, where those of lower ranks are. Returns the highest level.
+// Puts the names of rank c in their tiers, where those of lower ranks, which are walked, stand. Returns the highest level.
 fn climb_rank(
     masks: &[u64],
-    names: u64,
+    ranks: &[u64],
+    c: usize,
     walked: u64,
     tiers: &mut [u64],
     levels: &mut [u8],
     depth: usize,
 ) -> usize
-    requires { ⌜ (length (now masks) ≤ 64) × ((c : ℕ) × Climbed-rank (now masks) names walked c) ⌝ }
+    requires { ⌜ (length (now masks) ≤ 64) × (c < 65) ⌝ }
+    requires { ⌜ ((top : ℕ) × Ranked (now masks) (length (now masks)) (now ranks) top) × Ready (now masks) walked c ⌝ }
     requires { ⌜ Climbed (now masks) (has walked) (now tiers) (now levels) depth ⌝ }
-    ensures { λ r. ⌜ Climbed (now (masks .entry)) (has (bitOr walked names)) (now (tiers .exit)) (now (levels .exit)) r ⌝ }
+    ensures { λ r. ⌜ Climbed (now (masks .entry)) (has (bitOr walked (getD (now (ranks .entry)) c 0))) (now (tiers .exit)) (now (levels .exit)) r ⌝ }
 {
     let mut deepest = depth;
-    let mut rest = names;
+    let mut rest = ranks[c];
     while rest != 0 {
         let x = u64::trailing_zeros(rest) as usize;
         let below = highest(masks[x] & walked, tiers, deepest);

@@ -1,10 +1,10 @@
 -- `climb` meets its contract. The invariant: the names of rank below c are in their tiers.
-use Prim.Native.Nat.{_≤_, _-_}
+use Prim.Native.Nat.{_<_, _≤_, _-_}
 use native.Mathlib.Omega.{arith}
 use borrow.Author.Needs.{needs}
 use Rattle.name_sets.specs.Mask.{has}
 use Rattle.order_levels.specs.Climbing.{Ready, Climbed}
-use Rattle.order_levels.specs.ClimbingLaws.{ready-none, climbed-none, rank-ready, ready-next, climbed-all}
+use Rattle.order_levels.specs.ClimbingLaws.{ready-none, climbed-none, ready-next, climbed-all}
 use Rattle.order_levels.proofs.climb.Statement.{statement}
 use Rattle.order_levels.proofs.climb.Tie as tie
 
@@ -19,18 +19,23 @@ loop-holds c =
     let pre = c .before .before .before .before .pre in
     (omega arith, (ready-none, climbed-none (pre .1 .0) (pre .1 .1)))
 
+-- rank c has a set
+within : (c : tie.In-loop Inv-loop μ-loop) → c .before .loop .c < 65
+within c = omega (arith, c .loop-test .taken, c .before .before .before .before .before .before .pre .0 .1 .few)
+
 climb-rank-requires : tie.Need-climb-rank-requires Inv-loop μ-loop
 climb-rank-requires c κs =
-    let pre = c .before .before .before .before .before .before .before .before .before .pre .0 in
-    let inv = c .before .before .before .before .loop .inv .1 in
-    ((pre .0, (c .before .before .before .before .loop .c, rank-ready (pre .1) (inv .0) (c .before .before .before .loop-test .taken))), inv .1)
+    let turn = c .before .before in
+    let pre = turn .before .before .before .before .before .before .pre .0 in
+    let inv = turn .before .loop .inv .1 in
+    ((pre .0, within turn), (((_, pre .1), inv .0), inv .1))
 
 loop-again : tie.Need-loop-again Inv-loop μ-loop
 loop-again c =
-    let at-rank = c .before .before .before .before in
-    let at-loop = at-rank .before .before .before .before .before in
-    let ranked = at-loop .before .before .before .before .before .pre .0 .1 in
-    (omega arith, (ready-next ranked (at-loop .loop .inv .1 .0) (at-rank .before .before .before .before .loop-test .taken), at-rank .climb-rank .ensures))
+    let at-rank = c .before .before .before .before .before in
+    let turn = at-rank .before .before .before in
+    let ranked = turn .before .before .before .before .before .before .pre .0 .1 in
+    (omega arith, (ready-next ranked (turn .before .loop .inv .1 .0) (within turn), at-rank .climb-rank .ensures))
 
 returns : tie.Need-returns Inv-loop μ-loop
 returns c =
@@ -44,9 +49,9 @@ climb-spec =
     Inv-loop
     μ-loop
     loop-holds
-    (λ c. search needs)
-    (λ c. search needs)
     climb-rank-requires
+    (λ c. search needs)
+    (λ c. search needs)
     (λ c. search needs)
     (λ c. search needs)
     loop-again

@@ -6,38 +6,43 @@ use native.Mathlib.Omega.{arith}
 use borrow.Author.Needs.{needs}
 use lib.Bits.{xor-lt}
 use lib.Count.{trailingZeros}
+use lib.ListN.{length, getD}
 use lib.Pow.{pow-lt}
 use Rattle.name_sets.specs.Mask.{has, count}
 use Rattle.name_sets.specs.MemberLaws.{lowest, only-named, without-fewer}
-use Rattle.order_levels.specs.ClimbingLaws.{Walking, walking-start, walking-next, walking-end, named, level-few}
+use Rattle.order_levels.specs.Climbing.{Climbed-rank}
+use Rattle.order_levels.specs.ClimbingLaws.{Walking, rank-ready, walking-start, walking-next, walking-end, named, level-few}
 use Rattle.order_levels.proofs.climb_rank.Statement.{statement}
 use Rattle.order_levels.proofs.climb_rank.Tie as tie
 
 abbrev Inv-loop : tie.InvT-loop
-Inv-loop masks names walked tiers₀ levels₀ depth deepest₀ rest₀ tiers levels deepest rest = (rest < 2 ^ 64) × Walking masks walked names rest tiers levels deepest
+Inv-loop masks ranks c walked tiers₀ levels₀ depth deepest₀ rest₀ tiers levels deepest rest = (rest < 2 ^ 64) × Walking masks walked (getD ranks c 0) rest tiers levels deepest
 
 abbrev μ-loop : tie.MeasureT-loop
-μ-loop masks names walked tiers₀ levels₀ depth deepest₀ rest₀ tiers levels deepest rest = count 64 (has rest)
+μ-loop masks ranks c walked tiers₀ levels₀ depth deepest₀ rest₀ tiers levels deepest rest = count 64 (has rest)
 
 loop-holds : tie.Need-loop-holds Inv-loop μ-loop
-loop-holds c = (omega (arith, c .before .before .before .good), walking-start (c .before .before .before .pre .0 .0) (c .before .before .before .pre .1))
+loop-holds c =
+    let entry = c .before .before .before .before .before in
+    (c .shared-slice-known3 .given (entry .args .c) .fits, walking-start (entry .pre .0 .0) (entry .pre .1 .1))
+
+-- the names of the rank and of lower ranks
+own : (c : tie.In-loop Inv-loop μ-loop) → Climbed-rank (c .before .before .before .before .before .before .before .args .masks .now) (getD (c .before .before .before .before .before .before .before .args .ranks .now) (c .before .before .before .before .before .before .before .args .c) 0) (c .before .before .before .before .before .before .before .args .walked) (c .before .before .before .before .before .before .before .args .c)
+own c = let pre = c .before .before .before .before .before .before .before .pre in rank-ready (pre .1 .0 .0 .1) (pre .1 .0 .1) (pre .0 .1)
 
 -- the lowest name left
 low : (c : tie.In-loop Inv-loop μ-loop) → (trailingZeros 64 (c .before .loop .rest) < 64) × (has (c .before .loop .rest) (trailingZeros 64 (c .before .loop .rest)) ≡ true)
 low c = lowest 64 (c .before .loop .rest) (let h = c .loop-test .taken in omega arith) (c .before .loop .inv .0)
 
+short : (c : tie.In-loop Inv-loop μ-loop) → length (c .before .before .before .before .before .before .before .args .masks .now) ≤ 64
+short c = c .before .before .before .before .before .before .before .pre .0 .0
+
 shared-slice-read-highest : tie.Need-shared-slice-read-highest Inv-loop μ-loop
-shared-slice-read-highest c =
-    let at-loop = c .before .before in
-    let pre = at-loop .before .before .before .before .pre .0 in
-    named (pre .0) (pre .1 .1) (at-loop .loop .inv .1) (low (c .before) .0) (low (c .before) .1)
+shared-slice-read-highest c = let turn = c .before in named (short turn) (own turn) (turn .before .loop .inv .1) (low turn .0) (low turn .1)
 
 -- the level below it has a tier
 fits : (c : tie.After-highest Inv-loop μ-loop) → c .highest .result ≤ 64
-fits c =
-    let turn = c .before .before .before in
-    let pre = turn .before .before .before .before .before .pre .0 in
-    level-few (pre .0) (pre .1 .1) (turn .before .loop .inv .1) (low turn .0) (low turn .1) (c .highest .ensures)
+fits c = let turn = c .before .before .before in level-few (short turn) (own turn) (turn .before .loop .inv .1) (low turn .0) (low turn .1) (c .highest .ensures)
 
 slice-write-tiers : tie.Need-slice-write-tiers Inv-loop μ-loop
 slice-write-tiers c = omega (arith, fits (c .before .before), c .before .before .before .before .before .before .loop .inv .1 .climbed .tiers-size)
@@ -54,12 +59,11 @@ loop-again : tie.Need-loop-again Inv-loop μ-loop
 loop-again c =
     let at-highest = c .before .before .before .before in
     let turn = at-highest .before .before .before in
-    let pre = turn .before .before .before .before .before .pre .0 in
     rw (c .single2 .ensures, c .before .before .single .ensures, c .before .greater .ensures, only-named _ (low turn .0))
-    (xor-lt 64 _ _ (turn .before .loop .inv .0) (pow-lt (low turn .0)), walking-next (pre .0) (pre .1 .1) (turn .before .loop .inv .1) (low turn .0) (low turn .1) (at-highest .highest .ensures))
+    (xor-lt 64 _ _ (turn .before .loop .inv .0) (pow-lt (low turn .0)), walking-next (short turn) (own turn) (turn .before .loop .inv .1) (low turn .0) (low turn .1) (at-highest .highest .ensures))
 
 returns : tie.Need-returns Inv-loop μ-loop
-returns c = walking-end (c .before .before .before .before .before .pre .0 .0) (c .loop-test .left) (c .before .loop .inv .1)
+returns c = walking-end (c .before .before .before .before .before .before .before .pre .0 .0) (c .loop-test .left) (c .before .loop .inv .1)
 
 pub climb-rank-spec : {M : Type 1} → statement M
 climb-rank-spec =
@@ -67,6 +71,8 @@ climb-rank-spec =
     (tie.spec
     Inv-loop
     μ-loop
+    (λ c. search needs)
+    (λ c. omega (arith, c .before .before .before .before .before .pre .0 .1, c .before .before .before .before .before .pre .1 .0 .0 .1 .size))
     loop-holds
     (λ c. omega (arith, low c .0))
     (λ c. omega (arith, low c .0))
