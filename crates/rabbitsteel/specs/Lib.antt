@@ -1,2 +1,2 @@
-pub mod Tells
-pub mod TellsLaws
+pub mod Calls
+pub mod CallsLaws

@@ -1,6 +1,6 @@
 -- `rabbitsteel_ask` meets its contract: what is told of the answer is told of the tables that gave it.
 use borrow.Author.Needs.{needs}
-use Rattle.rabbitsteel.specs.TellsLaws.{tells-answer}
+use Rattle.rabbitsteel.specs.CallsLaws.{tells-answer}
 use Rattle.rabbitsteel.proofs.rabbitsteel_ask.Statement.{statement}
 use Rattle.rabbitsteel.proofs.rabbitsteel_ask.Tie as tie
 

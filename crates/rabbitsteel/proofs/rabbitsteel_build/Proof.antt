@@ -1,6 +1,6 @@
 -- `rabbitsteel_build` meets its contract: what is told of the outcome is told of the build that gave it.
 use borrow.Author.Needs.{needs}
-use Rattle.rabbitsteel.specs.TellsLaws.{tells-build}
+use Rattle.rabbitsteel.specs.CallsLaws.{tells-build}
 use Rattle.rabbitsteel.proofs.rabbitsteel_build.Statement.{statement}
 use Rattle.rabbitsteel.proofs.rabbitsteel_build.Tie as tie
 

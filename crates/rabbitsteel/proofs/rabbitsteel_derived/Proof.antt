@@ -1,6 +1,6 @@
 -- `rabbitsteel_derived` meets its contract: what is told of the reply is told of the call that gave it.
 use borrow.Author.Needs.{needs}
-use Rattle.rabbitsteel.specs.TellsLaws.{tells-derived}
+use Rattle.rabbitsteel.specs.CallsLaws.{tells-derived}
 use Rattle.rabbitsteel.proofs.rabbitsteel_derived.Statement.{statement}
 use Rattle.rabbitsteel.proofs.rabbitsteel_derived.Tie as tie
 

@@ -1,6 +1,6 @@
 -- `rabbitsteel_order` meets its contract: what is told of the order check's answer is told of the judgement that it equals.
 use borrow.Author.Needs.{needs}
-use Rattle.rabbitsteel.specs.TellsLaws.{tells-order}
+use Rattle.rabbitsteel.specs.CallsLaws.{tells-order}
 use Rattle.rabbitsteel.proofs.rabbitsteel_order.Statement.{statement}
 use Rattle.rabbitsteel.proofs.rabbitsteel_order.Tie as tie
 

@@ -2,8 +2,8 @@
 use borrow.Author.Needs.{needs}
 use Rattle.book_decoder.specs.Verdict.{header-of}
 use Rattle.book_format.specs.Format.{read}
-use Rattle.rabbitsteel.specs.Tells.{header-counts}
-use Rattle.rabbitsteel.specs.TellsLaws.{told-of, two-told}
+use Rattle.call_numbers.specs.Tells.{header-counts}
+use Rattle.rabbitsteel.specs.CallsLaws.{told-of, two-told}
 use Rattle.rabbitsteel.proofs.rabbitsteel_read.Statement.{statement}
 use Rattle.rabbitsteel.proofs.rabbitsteel_read.Tie as tie
 

@@ -31,7 +31,8 @@ use Rattle.table_limits.specs.declared.Outcome.{Outcome}
 use Rattle.table_builder.specs.Builds as builder
 use Rattle.query_deriver.specs.declared.Reply.{Reply}
 use Rattle.query_deriver.specs.Replies as replies
-use Rattle.rabbitsteel.specs.Tells.{Numbers, Tells, header-counts, book-counts, bit, built-counts, TellsOrder, TellsBuild, TellsAnswer, TellsDerived}
+use Rattle.call_numbers.specs.Tells.{Numbers, Tells, header-counts, built-counts, bit}
+use Rattle.rabbitsteel.specs.Calls.{book-counts, TellsOrder, TellsBuild, TellsAnswer, TellsDerived}
 
 -- what is told of an answer is told of the definition that it equals
 pub told-of : {A B : Type 0} (f : A → B) (g : B → Numbers) (x : Result A) {v : Result B} {cause one two three : ℕ} → v ≡ map-result f x

@@ -1,5 +1,5 @@
--- What the calls return and store: the number of the cause or 0, and counts or an answer, or the value beside the cause.
-use mathlib.Core.Bool.{Bool, true, false}
+-- What each call tells of a book or a question, and what it leaves of the lent memory.
+use mathlib.Core.Bool.{Bool}
 use mathlib.Core.List.{List}
 use mathlib.Core.Path.{_≡_}
 use Prim.Native.Nat.{ℕ}
@@ -7,47 +7,13 @@ use lib.ListN.{length, take}
 use Rattle.roles.specs.Role.{Chain}
 use Rattle.roles.specs.Rule.{Book}
 use Rattle.base.specs.Result.{Result, map-result}
-use Rattle.base.specs.Result.Result.{refused, ok}
 use Rattle.book_causes.specs.Ordered.{ordered}
 use Rattle.book_causes.specs.Accepted.{states-of, count-of, levels-of, depth-of, heads-of, moves-of, built, written}
 use Rattle.query_causes.specs.Query.{Answered}
 use Rattle.query_correctness.specs.Reply.{Replied, posed}
-use Rattle.book_header.specs.declared.Header.{Header}
-use Rattle.table_limits.specs.declared.Counts.{Counts}
+use Rattle.call_numbers.specs.Tells.{Numbers, Tells, bit}
 
--- three numbers told
-pub record Numbers : Type 0 where
-  pub one : ℕ
-  pub two : ℕ
-  pub three : ℕ
-
--- a result as four numbers: the cause or 0, and what is told
-abbrev pub cause-told : Result Numbers → ℕ
-cause-told (refused cause value) = cause
-cause-told (ok n) = 0
-
-abbrev pub first-told : Result Numbers → ℕ
-first-told (refused cause value) = value
-first-told (ok n) = n .one
-
-abbrev pub second-told : Result Numbers → ℕ
-second-told (refused cause value) = 0
-second-told (ok n) = n .two
-
-abbrev pub third-told : Result Numbers → ℕ
-third-told (refused cause value) = 0
-third-told (ok n) = n .three
-
-pub record Tells (r : Result Numbers) (cause first second third : ℕ) : Type 0 where
-  pub cause-is : cause ≡ cause-told r
-  pub first-is : first ≡ first-told r
-  pub second-is : second ≡ second-told r
-  pub third-is : third ≡ third-told r
-
--- how many names and rules, and a depth where one is told
-abbrev pub header-counts : ℕ → Header → Numbers
-header-counts depth h = record { one = h .names; two = h .rules; three = depth }
-
+-- how many names and rules, and the depth
 abbrev pub book-counts : Book → Numbers
 book-counts b = record { one = b .names; two = length (b .rules); three = 0 }
 
@@ -60,9 +26,6 @@ pub record TellsOrder (s l l′ : List ℕ) (cause first second third : ℕ) : T
   pub levels : l′ ≡ written (ordered s) (λ (b : Book). take (length l) (levels-of b)) l
 
 -- how many states and transitions, and the depth
-abbrev pub built-counts : Counts → Numbers
-built-counts k = record { one = k .states; two = k .transitions; three = k .depth }
-
 abbrev pub table-counts : Book → Numbers
 table-counts b = record { one = states-of b; two = count-of b; three = depth-of b }
 
@@ -71,11 +34,6 @@ pub record TellsBuild (s h m h′ m′ : List ℕ) (cause first second third : �
   pub tells : Tells (map-result table-counts (built s (length h) (length m))) cause first second third
   pub heads : h′ ≡ written (built s (length h) (length m)) heads-of h
   pub moves : m′ ≡ written (built s (length h) (length m)) moves-of m
-
--- yes is 1, no is 0
-abbrev pub bit : Bool → Numbers
-bit true = record { one = 1; two = 0; three = 0 }
-bit false = record { one = 0; two = 0; three = 0 }
 
 -- the answer of tables
 pub record TellsAnswer (h m : List ℕ) (r : ℕ) (w : Chain) (cause answer : ℕ) : Type 0 where
