@@ -33,6 +33,7 @@ fn outcome(outcome: Outcome) {
         Outcome::Built(counts) => {
             label(b": states ", counts.states);
             label(b", transitions ", counts.transitions);
+            label(b", depth ", counts.depth);
         }
         Outcome::Refused(refusal) => {
             label(b": refused ", refusals::build_cause(refusal));
