@@ -8,9 +8,8 @@ use Rattle.base.specs.Result.Result.{ok}
 use Rattle.base.specs.Writing.{over}
 use Rattle.roles.specs.Role.{name}
 use Rattle.roles.specs.Rule.{Rule, Book}
-use Rattle.order.specs.Shape.{Shape, shape}
+use Rattle.order.specs.Shape.{Shape, shape, inner-of}
 use Rattle.order.specs.Shape.Shape.{transitive, symmetric, row}
-use Rattle.order.specs.Closure.{inner-of}
 use Rattle.order.specs.ClosureLaws.Forced.{edge}
 use Rattle.order.specs.Regularity.{regular-closed}
 use Rattle.order.specs.Leveled.{Fits}

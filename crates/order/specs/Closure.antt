@@ -6,14 +6,7 @@ use Prim.Native.Nat.{ℕ}
 use lib.Dec.{eqb}
 use Rattle.roles.specs.Role.{Chain, name}
 use Rattle.roles.specs.Rule.{Rule}
-use Rattle.order.specs.Shape.{Shape, shape}
-use Rattle.order.specs.Shape.Shape.{transitive, symmetric, row}
-
--- the inner roles of a shape
-abbrev pub inner-of : Shape → Chain
-inner-of transitive = []
-inner-of symmetric = []
-inner-of (row from to inner) = inner
+use Rattle.order.specs.Shape.{shape, inner-of}
 
 -- whether y is the name of an inner role or lower than one
 unfoldable pub reaches : (ℕ → ℕ → Bool) → Chain → ℕ → Bool

@@ -9,13 +9,13 @@ use lib.Dec.{eqb}
 use Rattle.base.specs.Truth.{and-left, and-right, and-intro, or-cases, or-left, or-right}
 use Rattle.roles.specs.Role.{Chain, name}
 use Rattle.roles.specs.Rule.{Rule}
-use Rattle.order.specs.Shape.{Shape, shape}
+use Rattle.order.specs.Shape.{Shape, shape, inner-of}
 use Rattle.order.specs.Shape.Shape.{transitive, symmetric, row}
 use Rattle.order.specs.ShapeLaws.{View, view}
 use Rattle.order.specs.ShapeLaws.View.{is-transitive, is-symmetric, is-led, is-trailed, is-plain}
 use Rattle.order.specs.Regular.{holds}
 use Rattle.order.specs.Leveled.{AllInner, Lower, NameOrder}
-use Rattle.order.specs.Closure.{inner-of, reaches, no-order, with-inner, with-rule, clashes}
+use Rattle.order.specs.Closure.{reaches, no-order, with-inner, with-rule, clashes}
 
 -- what the rules force: an inner name is lower than the right name, and so on along
 pub data Forced (ρs : List Rule) : ℕ → ℕ → Type 0 where

@@ -5,8 +5,7 @@ use Prim.Native.Nat.{ℕ, zero, suc, max}
 use lib.Dec.{eqb}
 use Rattle.roles.specs.Role.{Chain, name}
 use Rattle.roles.specs.Rule.{Rule}
-use Rattle.order.specs.Shape.{shape}
-use Rattle.order.specs.Closure.{inner-of}
+use Rattle.order.specs.Shape.{shape, inner-of}
 
 -- the inner roles of all rules of a name, those whose right role is its inverse among them
 unfoldable pub inner-roles : List Rule → ℕ → Chain

@@ -16,11 +16,10 @@ use Rattle.roles.specs.Role.{Chain, name}
 use Rattle.roles.specs.Rule.{Rule}
 use Rattle.roles.specs.Named.{Named}
 use Rattle.name_sets.specs.Mask.{count}
-use Rattle.order.specs.Shape.{Shape, shape}
+use Rattle.order.specs.Shape.{Shape, shape, inner-of}
 use Rattle.order.specs.Shape.Shape.{transitive, symmetric, row}
 use Rattle.order.specs.Regular.{holds, Regular}
 use Rattle.order.specs.Leveled.{Lower, Fits, Leveled}
-use Rattle.order.specs.Closure.{inner-of}
 use Rattle.order.specs.ClosureLaws.{Closed, Forced, forced-lower, inner-left}
 use Rattle.order.specs.ClosureLaws.Forced.{edge, along}
 use Rattle.order.specs.Regularity.{regular-closed}

@@ -9,11 +9,10 @@ use Rattle.roles.specs.Role.{name, inv}
 use Rattle.roles.specs.RoleLaws.{inv-inv, name-inv, same-name}
 use Rattle.roles.specs.Rule.{Rule}
 use Rattle.roles.specs.Named.{Named}
-use Rattle.order.specs.Shape.{shape}
+use Rattle.order.specs.Shape.{shape, inner-of}
 use Rattle.order.specs.ShapeLaws.{view}
 use Rattle.order.specs.Regular.{holds, Regular, Least}
 use Rattle.order.specs.RoleOrder.{turning, form-inner, role-order, role-forms}
-use Rattle.order.specs.Closure.{inner-of}
 use Rattle.order.specs.ClosureLaws.{Closed, Forced, inner-each}
 use Rattle.order.specs.Regularity.{regular-closed}
 use Rattle.order.specs.Depth.{inner-roles, level, depth}

@@ -20,6 +20,12 @@ pub data Shape : Type 0 where
   -- forms 1, 2 and 3: the inner roles, in a row between two states
   row : (from to : End) → Chain → Shape
 
+-- the inner roles of a shape
+abbrev pub inner-of : Shape → Chain
+inner-of transitive = []
+inner-of symmetric = []
+inner-of (row from to inner) = inner
+
 -- whether a chain of two links or more begins, or ends, with a role
 unfoldable pub leads : ℕ → Chain → Bool
 leads r w = leb 2 (length w) && eqb (getD w 0 0) r

@@ -11,7 +11,8 @@ use lib.ListN.{length, getD, take, drop}
 use Rattle.roles.specs.Role.{Chain, name}
 use Rattle.roles.specs.Rule.{Rule}
 use Rattle.order.specs.Shape as Order
-use Rattle.order.specs.Closure.{inner-of, reaches, with-inner, with-rule, clashes}
+use Rattle.order.specs.Shape.{inner-of}
+use Rattle.order.specs.Closure.{reaches, with-inner, with-rule, clashes}
 use Rattle.name_sets.specs.Mask.{has, Holds}
 use Rattle.name_sets.specs.MaskLaws.{has-or}
 use Rattle.order_masks.specs.AbsorbLaws.{holds-empty}

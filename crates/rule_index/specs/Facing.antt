@@ -9,9 +9,8 @@ use lib.ListN.{length, getD}
 use Rattle.base.specs.Part.{getD-part, length-part}
 use Rattle.roles.specs.Role.{Chain, name}
 use Rattle.roles.specs.Rule.{Rule}
-use Rattle.order.specs.Shape.{End, Shape, shape}
+use Rattle.order.specs.Shape.{End, Shape, shape, inner-of}
 use Rattle.order.specs.Shape.Shape.{transitive, symmetric, row}
-use Rattle.order.specs.Closure.{inner-of}
 use Rattle.order.specs.Leveled.{Fits}
 use Rattle.order.specs.ClosureLaws.{inner-left}
 use Rattle.tables.specs.Tables.{Transition, state, row-size, rows-size, row-transitions, rows-transitions}

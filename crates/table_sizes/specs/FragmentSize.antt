@@ -11,11 +11,10 @@ use lib.Dec.{eqb}
 use Rattle.roles.specs.Role.{Chain, name, inv, inv-chain}
 use Rattle.roles.specs.RoleLaws.{inv-chain-nil, inv-chain-cons}
 use Rattle.roles.specs.Rule.{Rule}
-use Rattle.order.specs.Shape.{Shape, shape}
+use Rattle.order.specs.Shape.{Shape, shape, inner-of}
 use Rattle.order.specs.Shape.Shape.{transitive, symmetric, row}
 use Rattle.order.specs.ShapeForms.{turned}
 use Rattle.order.specs.Leveled.{Fits, Leveled}
-use Rattle.order.specs.Closure.{inner-of}
 use Rattle.tables.specs.Tables.{own-shapes, shapes, has-symmetric, row-size, rows-size, size-of}
 use Rattle.table_languages.specs.LeftSides.{fits-apart, completed-fits}
 use Rattle.table_languages.specs.RoleShapes.{own-shape-rule}

@@ -7,8 +7,7 @@ use mathlib.Core.Path.{_≡_}
 use Prim.Native.Nat.{ℕ, zero, suc, _+_, _*_, _<_}
 use Rattle.roles.specs.Role.{Chain, inv}
 use Rattle.roles.specs.Rule.{Rule}
-use Rattle.order.specs.Shape.{shape}
-use Rattle.order.specs.Closure.{inner-of}
+use Rattle.order.specs.Shape.{shape, inner-of}
 use Rattle.tables.specs.Tables.{rules-of, own-shapes, has-symmetric, row-size, size-of, state-count}
 
 -- size(r) in a book of n names

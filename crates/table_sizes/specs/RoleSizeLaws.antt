@@ -11,12 +11,11 @@ use Rattle.roles.specs.RoleLaws.{inv-inv, inv-chain-one, same-chain-complete, s
 use Rattle.roles.specs.Rule.{Rule, Book, inverse, completion}
 use Rattle.roles.specs.RuleLaws.{rule-path, inverse-inverse}
 use Rattle.roles.specs.Named.{Named}
-use Rattle.order.specs.Shape.{Shape, shape}
+use Rattle.order.specs.Shape.{Shape, shape, inner-of}
 use Rattle.order.specs.Shape.Shape.{transitive, symmetric, row}
 use Rattle.order.specs.Regular.{Regular}
 use Rattle.order.specs.Leveled.{Leveled}
 use Rattle.order.specs.DepthLaws.{regular-leveled}
-use Rattle.order.specs.Closure.{inner-of}
 use Rattle.tables.specs.Tables.{rules-of, own-shapes, has-symmetric, row-size, rows-size, size-of, states-from}
 use Rattle.table_languages.specs.LeftSides.{Shaped, shape-shaped}
 use Rattle.table_languages.specs.RoleShapes.{has-symmetric-member, member-has-symmetric, own-shape-rule, rule-own-shape}
