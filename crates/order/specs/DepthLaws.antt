@@ -25,7 +25,7 @@ use Rattle.order.specs.ClosureLaws.Forced.{edge, along}
 use Rattle.order.specs.Regularity.{regular-closed}
 use Rattle.order.specs.RankLaws.{rank-lower, rank-small}
 use Rattle.order.specs.Depth.{inner-roles, highest, level-of, levels-from, level, levels, depth}
-use Rattle.order.specs.Longest.{Longest, longest-some, longest-least}
+use Rattle.order.specs.Longest.{Way, Longest, longest-some, longest-way, way-short, longest-least}
 
 -- the highest of two
 max-one : (a b : ℕ) → (max a b ≡ a) ⊎ (max a b ≡ b)
@@ -201,6 +201,12 @@ module _ (n : ℕ) (ρs : List Rule) (named : Named n ρs) where
             → (level n ρs x ≡ 1) ⊎ ((y : ℕ) × (y < n) × Forced ρs y x × (level n ρs x ≡ suc (level n ρs y)))
         by-step x (inl e) = inl e
         by-step x (inr r) = let f = inner-forced x (r .0) (r .1) in inr (name (r .0), forced-low f, f, r .2)
+
+    pub level-way : (x : ℕ) → x < n → Way (Forced ρs) x (level n ρs x)
+    level-way = longest-way levels-longest
+
+    pub way-level : {x k : ℕ} → x < n → Way (Forced ρs) x k → k ≤ level n ρs x
+    way-level = way-short levels-longest (λ y x f. forced-low f)
 
     pub level-some : (x : ℕ) → x < n → 1 ≤ level n ρs x
     level-some = longest-some levels-longest
