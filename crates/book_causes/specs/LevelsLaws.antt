@@ -1,11 +1,12 @@
 -- What the levels of an ordered book serve for where its rules are laid: counted from 0, they are below the number of names and fit every rule.
 use mathlib.Core.List.{List, List·Memᴰ}
 use mathlib.Core.Path.{_≡_, ap, _∙_}
-use Prim.Native.Nat.{ℕ, _+_, _-_, _<_}
+use Prim.Native.Nat.{ℕ, _-_, _<_}
 use native.Mathlib.Omega.{arith}
-use lib.ListN.{length, getD, drop, List·getD-append}
+use lib.ListN.{getD}
 use Rattle.base.specs.Result.Result.{ok}
 use Rattle.base.specs.Writing.{over}
+use Rattle.base.specs.WritingLaws.{over-new}
 use Rattle.roles.specs.Role.{name}
 use Rattle.roles.specs.Rule.{Rule, Book}
 use Rattle.order.specs.Shape.{Shape, shape, inner-of}
@@ -14,7 +15,7 @@ use Rattle.order.specs.ClosureLaws.Forced.{edge}
 use Rattle.order.specs.Regularity.{regular-closed}
 use Rattle.order.specs.Leveled.{Fits}
 use Rattle.order.specs.Depth.{level}
-use Rattle.order.specs.DepthLaws.{levels-length, levels-at, level-some, level-few, levels-fit, forced-low, right-low}
+use Rattle.order.specs.DepthLaws.{levels-length, level-at, level-some, level-few, levels-fit, forced-low, right-low}
 use Rattle.book_format.specs.ReadLaws.{read-names}
 use Rattle.book_causes.specs.Ordered.{ordered}
 use Rattle.book_causes.specs.OrderedRun.{ordered-read, ordered-regular}
@@ -32,10 +33,7 @@ fits-same f g x (row from to inner) e h l = (l .0, λ s m. rw (h s m, e) (l .1 s
 
 module _ (s : List ℕ) (b : Book) (o : ordered s ≡ ok b) (old : List ℕ) where
   given : (x : ℕ) → x < b .names → getD (over (levels-of b) old) x 0 ≡ level (b .names) (b .rules) x
-  given x p =
-      List·getD-append (levels-of b) (drop (length (levels-of b)) old) 0 x (rw levels-length p)
-      ∙ levels-at (b .rules) (b .names) (b .names) 0 x p
-      ∙ ap (level (b .names) (b .rules)) (let e : 0 + x ≡ x = omega arith in e)
+  given x p = over-new (levels-of b) old x (rw levels-length p) ∙ level-at (b .names) (b .rules) x p
 
   pub levels-fitting : Fitting (over (levels-of b) old) b
   levels-fitting =

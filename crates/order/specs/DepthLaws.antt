@@ -124,11 +124,14 @@ unfolding levels-from
 levels-length ρs fuel zero x = refl
 levels-length ρs fuel (suc left) x = ap suc (levels-length ρs fuel left (suc x))
 
-pub levels-at : (ρs : List Rule) (fuel left x i : ℕ) → i < left → getD (levels-from ρs fuel left x) i 0 ≡ level-of ρs fuel (x + i)
+levels-at : (ρs : List Rule) (fuel left x i : ℕ) → i < left → getD (levels-from ρs fuel left x) i 0 ≡ level-of ρs fuel (x + i)
 unfolding levels-from
 levels-at ρs fuel zero x i h = absurd (let f : ⊥ = omega arith in f)
 levels-at ρs fuel (suc left) x zero h = let e : x + 0 ≡ x = omega arith in rw e refl
 levels-at ρs fuel (suc left) x (suc i) h = let e : x + suc i ≡ suc x + i = omega arith in rw e (levels-at ρs fuel left (suc x) i (omega arith))
+
+pub level-at : (n : ℕ) (ρs : List Rule) (x : ℕ) → x < n → getD (levels n ρs) x 0 ≡ level n ρs x
+level-at n ρs x p = let e : 0 + x ≡ x = omega arith in rw (levels-at ρs n n 0 x p, e) refl
 
 module _ (n : ℕ) (ρs : List Rule) (named : Named n ρs) where
   -- the order that the rules force is one on their names
@@ -232,11 +235,8 @@ module _ (n : ℕ) (ρs : List Rule) (named : Named n ρs) where
         record { level = λ x. level n ρs x - 1; small = λ x p. omega (arith, level-some x p, level-few x p); fits = levels-fit }
 
     -- the depth
-    level-at : (x : ℕ) → x < n → getD (levels n ρs) x 0 ≡ level n ρs x
-    level-at x p = let e : 0 + x ≡ x = omega arith in rw (levels-at ρs n n 0 x p, e) refl
-
     pub level-deep : (x : ℕ) → x < n → level n ρs x ≤ depth n ρs
-    level-deep x p = rw (← level-at x p) (highest-at (levels n ρs) x (rw levels-length p))
+    level-deep x p = rw (← level-at n ρs x p) (highest-at (levels n ρs) x (rw levels-length p))
 
     pub depth-met : 1 ≤ n → (x : ℕ) × (x < n) × (depth n ρs ≡ level n ρs x)
     depth-met some = by-case (highest-met (levels n ρs))
@@ -244,7 +244,7 @@ module _ (n : ℕ) (ρs : List Rule) (named : Named n ρs) where
         by-case : (depth n ρs ≡ 0) ⊎ ((x : ℕ) × (x < length (levels n ρs)) × (depth n ρs ≡ getD (levels n ρs) x 0))
             → (x : ℕ) × (x < n) × (depth n ρs ≡ level n ρs x)
         by-case (inl e) = absurd (let f : ⊥ = omega (arith, level-deep 0 some, level-some 0 some) in f)
-        by-case (inr r) = let p : r .0 < n = rw levels-length at (r .1) in (r .0, p, r .2 ∙ level-at (r .0) p)
+        by-case (inr r) = let p : r .0 < n = rw levels-length at (r .1) in (r .0, p, r .2 ∙ level-at n ρs (r .0) p)
 
     pub depth-some : 1 ≤ n → 1 ≤ depth n ρs
     depth-some some = omega (arith, level-deep 0 some, level-some 0 some)

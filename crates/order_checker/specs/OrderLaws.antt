@@ -2,7 +2,7 @@
 use mathlib.Core.List.{List}
 use mathlib.Core.Path.{_≡_, refl, sym, ap, _∙_, subst}
 use Prim.Native.Nat.{ℕ}
-use lib.ListN.{length, replicate}
+use lib.ListN.{length, replicate, length-replicate, getD-replicate}
 use lib.Seq.{take-all}
 use Rattle.roles.specs.Rule.{Book}
 use Rattle.order_levels.specs.declared.Levels.{Levels}
@@ -43,6 +43,9 @@ module _ {s : List ℕ} {v : Verdict} (e : says v ≡ map-result header-of (orde
       record {
         verdict = e;
         judged = ordered-judged s;
-        levels = levels-found (b .names) (b .rules) (read-names s b i) few (k .1) same (k .2) all ∙ sym (ap (λ (t : Result Book). written t levels-of (replicate 64 0)) q);
+        levels =
+            levels-found (b .names) (b .rules) (read-names s b i) few (k .1) same (k .2) all (replicate 64 0) (length-replicate {A = ℕ} 64 0)
+            (λ x p. getD-replicate {A = ℕ} 64 x 0 0 p)
+            ∙ sym (ap (λ (t : Result Book). written t levels-of (replicate 64 0)) q);
         depth = depth-found (b .names) (b .rules) (read-names s b i) few (k .1) same (k .2) all ∙ sym (ap (count-or-none depth-of) q);
       }

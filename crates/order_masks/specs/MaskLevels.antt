@@ -2,15 +2,15 @@
 use mathlib.Core.Bool.{Bool}
 use mathlib.Core.List.{List}
 use mathlib.Core.Logic.{_⊎_, inl, inr}
-use mathlib.Core.Path.{_≡_, sym, ap, _∙_}
-use Prim.Native.Nat.{ℕ, suc, _+_, _-_, _<_, _≤_}
+use mathlib.Core.Path.{_≡_, sym, _∙_}
+use Prim.Native.Nat.{ℕ, suc, _-_, _<_, _≤_}
 use native.Mathlib.Nat.{le-antisymm}
 use native.Mathlib.Omega.{arith}
-use lib.ListN.{length, getD, replicate, length-replicate, getD-replicate, List·getD-append}
-use lib.Seq.{ext-getD, getD-append-add, getD-drop}
+use lib.ListN.{length, getD}
+use lib.Seq.{ext-getD}
 use Rattle.base.specs.Truth.{lt-or-le}
 use Rattle.base.specs.Writing.{over}
-use Rattle.base.specs.WritingLaws.{over-length}
+use Rattle.base.specs.WritingLaws.{over-length, over-new, over-old}
 use Rattle.roles.specs.Rule.{Rule}
 use Rattle.roles.specs.Named.{Named}
 use Rattle.name_sets.specs.Mask.{has, Holds, count}
@@ -19,7 +19,7 @@ use Rattle.order.specs.Regular.{holds}
 use Rattle.order.specs.ClosureLaws.{Closed, Forced, forced-lower}
 use Rattle.order.specs.RankLaws.{rank-lower}
 use Rattle.order.specs.Depth.{highest, level, levels, depth}
-use Rattle.order.specs.DepthLaws.{forced-low, forced-high, levels-length, levels-at, levels-longest, highest-at, highest-met}
+use Rattle.order.specs.DepthLaws.{forced-low, forced-high, levels-length, level-at, levels-longest, highest-at, highest-met}
 use Rattle.order.specs.Longest.{Longest, longest-one}
 use Rattle.order_levels.specs.Levels.{rank, Under, LeveledBy}
 
@@ -59,29 +59,21 @@ module _ (n : ℕ) (ρs : List Rule) (named : Named n ρs) (few : n ≤ 64) {low
     level-found : (x : ℕ) → x < n → getD found x 0 ≡ level n ρs x
     level-found = longest-one longest (levels-longest n ρs named c)
 
-    given : (x : ℕ) → x < n → getD (levels n ρs) x 0 ≡ level n ρs x
-    given x p = levels-at ρs n n 0 x p ∙ ap (level n ρs) (let e : 0 + x ≡ x = omega arith in e)
-
-    -- a level for each name, and 0 for all other numbers
-    pub levels-found : found ≡ over (levels n ρs) (replicate 64 0)
-    levels-found =
-        ext-getD 0 found (over (levels n ρs) (replicate 64 0))
-        (l .size ∙ sym (over-length (levels n ρs) (replicate 64 0) (rw (levels-length, length-replicate {A = ℕ} 64 0) few) ∙ length-replicate {A = ℕ} 64 0))
+    -- a level for each name, over 64 zeros
+    pub levels-found : (zeros : List ℕ) → length zeros ≡ 64 → ((x : ℕ) → x < 64 → getD zeros x 0 ≡ 0) → found ≡ over (levels n ρs) zeros
+    levels-found zeros long zero-at =
+        ext-getD 0 found (over (levels n ρs) zeros) (l .size ∙ sym (over-length (levels n ρs) zeros (rw (levels-length, long) few) ∙ long))
         (λ x p. by-place x (rw (l .size) at p) (lt-or-le x n))
       where
-        by-place : (x : ℕ) → x < 64 → (x < n) ⊎ (n ≤ x) → getD found x 0 ≡ getD (over (levels n ρs) (replicate 64 0)) x 0
-        by-place x p (inl q) = level-found x q ∙ sym (given x q) ∙ sym (List·getD-append (levels n ρs) _ 0 x (rw levels-length q))
-        by-place x p (inr q) =
-            let e : x ≡ length (levels n ρs) + (x - n) = omega (arith, levels-length ρs n n 0) in
-            let d : length (levels n ρs) + (x - n) < 64 = omega (arith, levels-length ρs n n 0) in
-            l .others x (rw size q)
-            ∙ sym (ap (λ (k : ℕ). getD (over (levels n ρs) (replicate 64 0)) k 0) e ∙ getD-append-add (levels n ρs) _ (x - n) 0 ∙ getD-drop (length (levels n ρs)) (replicate 64 0) (x - n) 0 ∙ getD-replicate {A = ℕ} 64 _ 0 0 d)
+        by-place : (x : ℕ) → x < 64 → (x < n) ⊎ (n ≤ x) → getD found x 0 ≡ getD (over (levels n ρs) zeros) x 0
+        by-place x p (inl q) = level-found x q ∙ sym (over-new (levels n ρs) zeros x (rw levels-length q) ∙ level-at n ρs x q)
+        by-place x p (inr q) = l .others x (rw size q) ∙ sym (over-old (levels n ρs) zeros x (rw levels-length q) ∙ zero-at x p)
 
     pub depth-found : highest-found ≡ depth n ρs
     depth-found = l .depth-is ∙ le-antisymm (by-found (highest-met found)) (by-given (highest-met (levels n ρs)))
       where
         by-place : (x : ℕ) → (x < n) ⊎ (n ≤ x) → getD found x 0 ≤ depth n ρs
-        by-place x (inl q) = rw (level-found x q, ← given x q) (highest-at (levels n ρs) x (rw levels-length q))
+        by-place x (inl q) = rw (level-found x q, ← level-at n ρs x q) (highest-at (levels n ρs) x (rw levels-length q))
         by-place x (inr q) = omega (arith, l .others x (rw size q))
 
         by-found : (highest found ≡ 0) ⊎ ((x : ℕ) × (x < length found) × (highest found ≡ getD found x 0)) → highest found ≤ depth n ρs
@@ -92,4 +84,4 @@ module _ (n : ℕ) (ρs : List Rule) (named : Named n ρs) (few : n ≤ 64) {low
         by-given (inl e) = omega arith
         by-given (inr (x, p, e)) =
             let q : x < n = rw levels-length at p in
-            rw (e, given x q, ← level-found x q) (highest-at found x (omega (arith, l .size)))
+            rw (e, level-at n ρs x q, ← level-found x q) (highest-at found x (omega (arith, l .size)))
