@@ -1,3 +1,6 @@
 pub mod Levels
 pub mod Climbing
-pub mod ClimbingLaws
+pub mod RankedLaws
+pub mod TierLaws
+pub mod ClimbedLaws
+pub mod WalkLaws

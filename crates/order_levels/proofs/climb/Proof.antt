@@ -4,7 +4,8 @@ use native.Mathlib.Omega.{arith}
 use borrow.Author.Needs.{needs}
 use Rattle.name_sets.specs.Mask.{has}
 use Rattle.order_levels.specs.Climbing.{Ready, Climbed}
-use Rattle.order_levels.specs.ClimbingLaws.{ready-none, climbed-none, ready-next, climbed-all}
+use Rattle.order_levels.specs.ClimbedLaws.{climbed-none}
+use Rattle.order_levels.specs.WalkLaws.{ready-none, ready-next, climbed-all}
 use Rattle.order_levels.proofs.climb.Statement.{statement}
 use Rattle.order_levels.proofs.climb.Tie as tie
 

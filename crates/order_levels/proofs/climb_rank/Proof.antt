@@ -11,7 +11,7 @@ use lib.Pow.{pow-lt}
 use Rattle.name_sets.specs.Mask.{has, count}
 use Rattle.name_sets.specs.MemberLaws.{lowest, only-named, without-fewer}
 use Rattle.order_levels.specs.Climbing.{Climbed-rank}
-use Rattle.order_levels.specs.ClimbingLaws.{Walking, rank-ready, walking-start, walking-next, walking-end, named, level-few}
+use Rattle.order_levels.specs.WalkLaws.{Walking, rank-ready, walking-start, walking-next, walking-end, named, level-few}
 use Rattle.order_levels.proofs.climb_rank.Statement.{statement}
 use Rattle.order_levels.proofs.climb_rank.Tie as tie
 

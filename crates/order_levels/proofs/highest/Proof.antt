@@ -3,7 +3,7 @@ use Prim.Native.Nat.{_-_}
 use native.Mathlib.Omega.{arith}
 use borrow.Author.Needs.{needs}
 use lib.Bits.{and-lt}
-use Rattle.order_levels.specs.ClimbingLaws.{Searched, searched-start, searched-next, searched-none, searched-met}
+use Rattle.order_levels.specs.TierLaws.{Searched, searched-start, searched-next, searched-none, searched-met}
 use Rattle.order_levels.proofs.highest.Statement.{statement}
 use Rattle.order_levels.proofs.highest.Tie as tie
 

@@ -4,7 +4,7 @@ use Prim.Native.Nat.{_≤_}
 use borrow.Author.Needs.{needs}
 use lib.ListN.{length, take}
 use lib.Seq.{length-take-le}
-use Rattle.order_levels.specs.ClimbingLaws.{front}
+use Rattle.order_levels.specs.WalkLaws.{front}
 use Rattle.order_levels.proofs.levels_of.Statement.{statement}
 use Rattle.order_levels.proofs.levels_of.Tie as tie
 

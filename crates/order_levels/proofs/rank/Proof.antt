@@ -8,7 +8,7 @@ use lib.ListN.{length, getD}
 use Rattle.name_sets.specs.MaskLaws.{ones-count}
 use Rattle.name_sets.specs.MemberLaws.{only-named}
 use Rattle.order_levels.specs.Climbing.{Ranked}
-use Rattle.order_levels.specs.ClimbingLaws.{ranked-none, ranked-next}
+use Rattle.order_levels.specs.RankedLaws.{ranked-none, ranked-next}
 use Rattle.order_levels.proofs.rank.Statement.{statement}
 use Rattle.order_levels.proofs.rank.Tie as tie
 
