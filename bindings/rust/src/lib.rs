@@ -5,9 +5,8 @@
 //! is, builds tables and answers whether a chain of links is derived from a role.
 //!
 //! A role byte is twice the name, plus 1 for the inverse; [`role`] and [`inverse`] make them. The
-//! calls keep no state and take no memory but what is lent to them and what they give back, so they
-//! may run in several threads at once; a build or a question takes up to 40 KB of the stack, both in
-//! one call 70 KB.
+//! calls keep no state and take no more memory than is lent to them, so they may run in several
+//! threads at once; a build or a question takes up to 40 KB of the stack, both in one call 70 KB.
 //!
 //! # The hall book
 //!
@@ -102,7 +101,7 @@ pub struct Header {
 ///
 /// The level of a name, and of its inverse, is 1 where none of its rules has an inner role, else 1
 /// more than the highest level among its rules' inner names.
-#[derive(Debug, Clone, PartialEq, Eq, Hash)]
+#[derive(Debug, Clone, Copy, PartialEq, Eq, Hash)]
 pub struct Order {
     /// How many names it has.
     pub names: usize,
@@ -110,13 +109,13 @@ pub struct Order {
     pub rules: usize,
     /// The highest level, 1 to [`NAMES_MAX`].
     pub depth: usize,
-    levels: Box<[u8]>,
+    levels: [u8; NAMES_MAX],
 }
 
 impl Order {
     /// One level to a name.
     pub fn levels(&self) -> &[u8] {
-        &self.levels
+        &self.levels[..self.names]
     }
 }
 
@@ -165,7 +164,7 @@ pub fn order(book: &[u8]) -> Result<Order, Refusal> {
         names,
         rules,
         depth,
-        levels: levels[..names].into(),
+        levels,
     })
 }
 
