@@ -17,20 +17,21 @@ pub has-zero : (y : ℕ) → has 0 y ≡ false
 unfolding has
 has-zero y = rw zero-div refl
 
-or-bits : (p q : ℕ) → p < 2 → q < 2 → eqb (bitOr p q) 1 ≡ (eqb p 1 || eqb q 1)
-or-bits zero zero h k = refl
-or-bits zero (suc zero) h k = refl
-or-bits zero (suc (suc q)) h k = absurd (let f : ⊥ = omega arith in f)
-or-bits (suc zero) zero h k = refl
-or-bits (suc zero) (suc zero) h k = refl
-or-bits (suc zero) (suc (suc q)) h k = absurd (let f : ⊥ = omega arith in f)
-or-bits (suc (suc p)) q h k = absurd (let f : ⊥ = omega arith in f)
+-- what holds of all pairs of bits
+pub two-bits : (P : ℕ → ℕ → Type 0) → P 0 0 → P 0 1 → P 1 0 → P 1 1 → (p q : ℕ) → p < 2 → q < 2 → P p q
+two-bits P a b c d zero zero h k = a
+two-bits P a b c d zero (suc zero) h k = b
+two-bits P a b c d (suc zero) zero h k = c
+two-bits P a b c d (suc zero) (suc zero) h k = d
+two-bits P a b c d zero (suc (suc q)) h k = absurd (let f : ⊥ = omega arith in f)
+two-bits P a b c d (suc zero) (suc (suc q)) h k = absurd (let f : ⊥ = omega arith in f)
+two-bits P a b c d (suc (suc p)) q h k = absurd (let f : ⊥ = omega arith in f)
 
 pub has-or : (a b y : ℕ) → has (bitOr a b) y ≡ (has a y || has b y)
 unfolding has
 has-or a b y =
     rw (or-shr a b y, or-mod (a / 2 ^ y) (b / 2 ^ y) 1)
-    (or-bits (a / 2 ^ y % 2) (b / 2 ^ y % 2) (mod-lt (a / 2 ^ y) (lit< tt)) (mod-lt (b / 2 ^ y) (lit< tt)))
+    (two-bits (λ p q. eqb (bitOr p q) 1 ≡ (eqb p 1 || eqb q 1)) refl refl refl refl (a / 2 ^ y % 2) (b / 2 ^ y % 2) (mod-lt (a / 2 ^ y) (lit< tt)) (mod-lt (b / 2 ^ y) (lit< tt)))
 
 pub has-single : (x y : ℕ) → has (2 ^ x) y ≡ eqb y x
 unfolding has

@@ -1,5 +1,5 @@
 -- Names in and out of sets: a name read by a shift, the set of one name, what two sets share, a name taken out, and the lowest name.
-use mathlib.Core.Bool.{true, false, _&&_, true≢false}
+use mathlib.Core.Bool.{true, false, cond, not, _&&_}
 use mathlib.Core.Logic.{_⊎_, inl, inr}
 use mathlib.Core.Path.{_≡_, refl, sym, ap, _∙_}
 use Prim.Native.Nat.{ℕ, zero, suc, _+_, _*_, _/_, _%_, _^_, _<_, _≤_}
@@ -12,7 +12,7 @@ use lib.Dec.{eqb, lit<}
 use lib.Pow.{pow-mono, shl-exact, shr-lt}
 use Rattle.base.specs.Truth.{eq-or-ne}
 use Rattle.name_sets.specs.Mask.{has, only, count}
-use Rattle.name_sets.specs.MaskLaws.{has-single, has-half, count-lt}
+use Rattle.name_sets.specs.MaskLaws.{two-bits, has-single, has-half, count-lt}
 
 pub has-shift : (m y : ℕ) → eqb (bitAnd (m / 2 ^ y) 1) 1 ≡ has m y
 unfolding has
@@ -40,48 +40,26 @@ unfolding only
 only-named x h = rw (lt-ltb x 64 h) refl
 
 -- what two sets share
-and-bits : (p q : ℕ) → p < 2 → q < 2 → eqb (bitAnd p q) 1 ≡ (eqb p 1 && eqb q 1)
-and-bits zero zero h k = refl
-and-bits zero (suc zero) h k = refl
-and-bits zero (suc (suc q)) h k = absurd (let f : ⊥ = omega arith in f)
-and-bits (suc zero) zero h k = refl
-and-bits (suc zero) (suc zero) h k = refl
-and-bits (suc zero) (suc (suc q)) h k = absurd (let f : ⊥ = omega arith in f)
-and-bits (suc (suc p)) q h k = absurd (let f : ⊥ = omega arith in f)
-
 pub has-and : (a b y : ℕ) → has (bitAnd a b) y ≡ (has a y && has b y)
 unfolding has
 has-and a b y =
     rw (and-shr a b y, and-mod (a / 2 ^ y) (b / 2 ^ y) 1)
-    (and-bits (a / 2 ^ y % 2) (b / 2 ^ y % 2) (mod-lt (a / 2 ^ y) (lit< tt)) (mod-lt (b / 2 ^ y) (lit< tt)))
+    (two-bits (λ p q. eqb (bitAnd p q) 1 ≡ (eqb p 1 && eqb q 1)) refl refl refl refl (a / 2 ^ y % 2) (b / 2 ^ y % 2) (mod-lt (a / 2 ^ y) (lit< tt)) (mod-lt (b / 2 ^ y) (lit< tt)))
+
+-- what only one of two sets has
+has-xor : (a b y : ℕ) → has (bitXor a b) y ≡ cond (has b y) (not (has a y)) (has a y)
+unfolding has
+has-xor a b y =
+    rw (xor-shr a b y, xor-mod (a / 2 ^ y) (b / 2 ^ y) 1)
+    (two-bits (λ p q. eqb (bitXor p q) 1 ≡ cond (eqb q 1) (not (eqb p 1)) (eqb p 1)) refl refl refl refl (a / 2 ^ y % 2) (b / 2 ^ y % 2) (mod-lt (a / 2 ^ y) (lit< tt)) (mod-lt (b / 2 ^ y) (lit< tt)))
 
 -- a name taken out: the others stay
-xor-bits : (p q : ℕ) → p < 2 → q < 2 → eqb q 1 ≡ false → eqb (bitXor p q) 1 ≡ eqb p 1
-xor-bits zero zero h k e = refl
-xor-bits (suc zero) zero h k e = refl
-xor-bits p (suc zero) h k e = absurd (true≢false e)
-xor-bits p (suc (suc q)) h k e = absurd (let f : ⊥ = omega arith in f)
-xor-bits (suc (suc p)) zero h k e = absurd (let f : ⊥ = omega arith in f)
-
-xor-same : (p q : ℕ) → p < 2 → q < 2 → eqb p 1 ≡ true → eqb q 1 ≡ true → eqb (bitXor p q) 1 ≡ false
-xor-same zero q h k e d = absurd (true≢false (sym e))
-xor-same (suc zero) zero h k e d = absurd (true≢false (sym d))
-xor-same (suc zero) (suc zero) h k e d = refl
-xor-same (suc zero) (suc (suc q)) h k e d = absurd (let f : ⊥ = omega arith in f)
-xor-same (suc (suc p)) q h k e d = absurd (let f : ⊥ = omega arith in f)
-
 module _ (m x : ℕ) where
   pub without-other : (y : ℕ) → (y ≡ x → ⊥) → has (bitXor m (2 ^ x)) y ≡ has m y
-  unfolding has
-  without-other y e =
-      rw (xor-shr m (2 ^ x) y, xor-mod (m / 2 ^ y) (2 ^ x / 2 ^ y) 1)
-      (xor-bits (m / 2 ^ y % 2) (2 ^ x / 2 ^ y % 2) (mod-lt (m / 2 ^ y) (lit< tt)) (mod-lt (2 ^ x / 2 ^ y) (lit< tt)) (has-single x y ∙ ne-eqb y x e))
+  without-other y e = rw (has-xor m (2 ^ x) y, has-single x y, ne-eqb y x e) refl
 
   pub without-own : has m x ≡ true → has (bitXor m (2 ^ x)) x ≡ false
-  unfolding has
-  without-own h =
-      rw (xor-shr m (2 ^ x) x, xor-mod (m / 2 ^ x) (2 ^ x / 2 ^ x) 1)
-      (xor-same (m / 2 ^ x % 2) (2 ^ x / 2 ^ x % 2) (mod-lt (m / 2 ^ x) (lit< tt)) (mod-lt (2 ^ x / 2 ^ x) (lit< tt)) h (has-single x x ∙ eq-eqb x x refl))
+  without-own h = rw (has-xor m (2 ^ x) x, has-single x x, eq-eqb x x refl, h) refl
 
   -- and there are fewer of them
   pub without-fewer : x < 64 → has m x ≡ true → count 64 (has (bitXor m (2 ^ x))) < count 64 (has m)
