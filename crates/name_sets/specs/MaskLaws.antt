@@ -51,12 +51,6 @@ pub has-half : (m y : ℕ) → has (m / 2) y ≡ has m (suc y)
 unfolding has
 has-half m y = ap (λ (k : ℕ). eqb (k % 2) 1) (shr-shr m 1 y ∙ ap (λ (k : ℕ). m / 2 ^ k) (let e : 1 + y ≡ suc y = omega arith in e))
 
--- a test that always fails passes never
-pub count-none : (d : ℕ) (P : ℕ → Bool) → ((k : ℕ) → P k ≡ false) → count d P ≡ 0
-unfolding count
-count-none zero P h = refl
-count-none (suc d) P h = rw (h 0, count-none d (λ k. P (suc k)) (λ k. h (suc k))) refl
-
 -- tests that agree pass as often
 pub count-same : (d : ℕ) (P Q : ℕ → Bool) → ((k : ℕ) → k < d → P k ≡ Q k) → count d P ≡ count d Q
 unfolding count
