@@ -1,4 +1,5 @@
 pub mod BookRefusals
 pub mod BuildRefusals
 pub mod QueryRefusals
+pub mod BookQueryRefusals
 pub mod Check

@@ -1,0 +1,3 @@
+pub mod ShortQuestion
+pub mod RuleTable
+pub mod Admission
