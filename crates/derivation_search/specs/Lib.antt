@@ -1,1 +1,5 @@
 pub mod Searched
+pub mod Entering
+pub mod AddedLaws
+pub mod Searching
+pub mod EnteredLaws
