@@ -1,1 +1,2 @@
 pub mod WrittenSteps
+pub mod StepLaws
