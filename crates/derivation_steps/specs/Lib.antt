@@ -1,2 +1,3 @@
 pub mod WrittenSteps
 pub mod StepLaws
+pub mod NumberedLaws

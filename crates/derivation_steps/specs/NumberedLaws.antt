@@ -1,0 +1,60 @@
+-- The rules of a number and a side are the rules of the completion.
+use mathlib.Core.Bool.{Bool, true, false, cond}
+use mathlib.Core.List.{List, [], _∷_, _++_, map, List·Memᴰ, Memᴰ·append-left, Memᴰ·append-right, Memᴰ·map, Memᴰ·of-map}
+use mathlib.Core.List.{List·Memᴰ·append-cases, List·Memᴰ·cases-cons, List·Memᴰ·not-nil}
+use mathlib.Core.List.List·Memᴰ.{List·Memᴰ·head, List·Memᴰ·tail}
+use mathlib.Core.Logic.{_⊎_, inl, inr}
+use mathlib.Core.Path.{_≡_, refl, sym, ap, _∙_}
+use Prim.Native.Nat.{ℕ, zero, suc, _<_, _≤_}
+use native.Mathlib.Nat.{not-suc-le-zero}
+use native.Mathlib.Omega.{arith}
+use lib.Dec.{eqb}
+use lib.ListN.{length, getD}
+use Rattle.roles.specs.Rule.{Rule, inverse, completion}
+use Rattle.derivation_steps.specs.WrittenSteps.{completed}
+
+-- a number and a side of a rule
+pub record Numbered (ρs : List Rule) (ρ : Rule) : Type 0 where
+  pub number : ℕ
+  pub side : ℕ
+  pub listed : number < length ρs
+  pub sided : side ≤ 1
+  pub same : completed ρs number side ≡ ρ
+
+getD-member : {A : Type 0} (l : List A) (k : ℕ) (d : A) → k < length l → List·Memᴰ (getD l k d) l
+getD-member [] k d h = absurd (not-suc-le-zero h)
+getD-member (a ∷ l) zero d h = List·Memᴰ·head refl
+getD-member (a ∷ l) (suc k) d h = List·Memᴰ·tail (getD-member l k d (omega arith))
+
+member-place : {A : Type 0} (l : List A) (a d : A) → List·Memᴰ a l → (k : ℕ) × (k < length l) × (getD l k d ≡ a)
+member-place [] a d m = absurd (List·Memᴰ·not-nil m)
+member-place {A} (b ∷ l) a d m = by-place (λ (k : List·Memᴰ a l). member-place l a d k) (List·Memᴰ·cases-cons m)
+  where
+    by-place : (List·Memᴰ a l → (k : ℕ) × (k < length l) × (getD l k d ≡ a)) → (a ≡ b) ⊎ List·Memᴰ a l
+        → (k : ℕ) × (k < suc (length l)) × (getD (b ∷ l) k d ≡ a)
+    by-place rest (inl e) = (0, omega arith, sym e)
+    by-place rest (inr k) = let r = rest k in (suc (r .0), omega (arith, r .1), r .2)
+
+module _ (ρs : List Rule) where
+  pub completed-member : (number side : ℕ) → number < length ρs → List·Memᴰ (completed ρs number side) (completion ρs)
+  unfolding completed completion
+  completed-member number side h = by-test (eqb side 0) (getD ρs number (record { left = []; right = 0 })) (getD-member ρs number _ h)
+    where
+      by-test : (t : Bool) (ρ : Rule) → List·Memᴰ ρ ρs → List·Memᴰ (cond t ρ (inverse ρ)) (ρs ++ map inverse ρs)
+      by-test true ρ m = Memᴰ·append-left (map inverse ρs) m
+      by-test false ρ m = Memᴰ·append-right ρs (Memᴰ·map inverse m)
+
+  pub numbered : (ρ : Rule) → List·Memᴰ ρ (completion ρs) → Numbered ρs ρ
+  unfolding completion completed
+  numbered ρ m = by-part (List·Memᴰ·append-cases ρs m)
+    where
+      inverted : (σ : Rule) × List·Memᴰ σ ρs × (inverse σ ≡ ρ) → Numbered ρs ρ
+      inverted t =
+          let k = member-place ρs (t .0) (record { left = []; right = 0 }) (t .1) in
+          record { number = k .0; side = 1; listed = k .1; sided = omega arith; same = ap inverse (k .2) ∙ t .2 }
+
+      by-part : List·Memᴰ ρ ρs ⊎ List·Memᴰ ρ (map inverse ρs) → Numbered ρs ρ
+      by-part (inl k) =
+          let p = member-place ρs ρ (record { left = []; right = 0 }) k in
+          record { number = p .0; side = 0; listed = p .1; sided = omega arith; same = p .2 }
+      by-part (inr k) = inverted (Memᴰ·of-map inverse ρs k)
