@@ -1,3 +1,4 @@
 pub mod WrittenSteps
 pub mod StepLaws
 pub mod NumberedLaws
+pub mod LeadsLaws
