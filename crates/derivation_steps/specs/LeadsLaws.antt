@@ -99,6 +99,17 @@ module _ (count : ℕ) (rule : (number side : ℕ) → Rule) where
       behind : drop (suc (length u)) (u ++ (rule number side .right ∷ after)) ≡ after
       behind = rw (← add-one (length u)) (drop-append-add u (rule number side .right ∷ after) 1)
 
+  -- a step in front is four bytes in front
+  pub leads-before : (s : List ℕ) (n : ℕ) (u : Chain) (number side : ℕ) (after w : Chain) → number < count → side ≤ 1
+      → length u + length (rule number side .left) + length after ≤ 16
+      → leads count rule s 0 n (u ++ (rule number side .left ++ after)) ≡ ok w
+      → leads count rule (length u ∷ 0 ∷ number ∷ side ∷ s) 0 (suc n) (u ++ (rule number side .right ∷ after)) ≡ ok w
+  unfolding step-at
+  leads-before s n u number side after w listed sided short h =
+      leads-first (length u ∷ 0 ∷ number ∷ side ∷ s) 0 n u number side after listed sided short
+      (λ i. record { place = add-zero (length u) i; number = number; side = side })
+      ∙ leads-behind (length u ∷ 0 ∷ number ∷ side ∷ []) s 1 0 1 n (u ++ (rule number side .left ++ after)) w refl refl h
+
   -- one more step at the end
   pub leads-step : (s : List ℕ) (at : ℕ) (c u : Chain) (number side : ℕ) (after : Chain) → number < count → side ≤ 1
       → length u + length (rule number side .left) + length after ≤ 16

@@ -2,3 +2,4 @@ pub mod WrittenSteps
 pub mod StepLaws
 pub mod NumberedLaws
 pub mod LeadsLaws
+pub mod Derivations

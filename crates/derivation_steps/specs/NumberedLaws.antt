@@ -1,5 +1,4 @@
 -- The rules of a number and a side are the rules of the completion.
-use mathlib.Core.Bool.{Bool, true, false, cond}
 use mathlib.Core.List.{List, [], _∷_, _++_, map, List·Memᴰ, Memᴰ·append-left, Memᴰ·append-right, Memᴰ·map, Memᴰ·of-map}
 use mathlib.Core.List.{List·Memᴰ·append-cases, List·Memᴰ·cases-cons, List·Memᴰ·not-nil}
 use mathlib.Core.List.List·Memᴰ.{List·Memᴰ·head, List·Memᴰ·tail}
@@ -10,6 +9,8 @@ use native.Mathlib.Nat.{not-suc-le-zero}
 use native.Mathlib.Omega.{arith}
 use lib.Dec.{eqb}
 use lib.ListN.{length, getD}
+use Rattle.base.specs.Every.{cond-both}
+use Rattle.roles.specs.RoleLaws.{length-inv-chain}
 use Rattle.roles.specs.Rule.{Rule, inverse, completion}
 use Rattle.derivation_steps.specs.WrittenSteps.{completed}
 
@@ -28,7 +29,7 @@ getD-member (a ∷ l) (suc k) d h = List·Memᴰ·tail (getD-member l k d (omega
 
 member-place : {A : Type 0} (l : List A) (a d : A) → List·Memᴰ a l → (k : ℕ) × (k < length l) × (getD l k d ≡ a)
 member-place [] a d m = absurd (List·Memᴰ·not-nil m)
-member-place {A} (b ∷ l) a d m = by-place (λ (k : List·Memᴰ a l). member-place l a d k) (List·Memᴰ·cases-cons m)
+member-place (b ∷ l) a d m = by-place (λ (k : List·Memᴰ a l). member-place l a d k) (List·Memᴰ·cases-cons m)
   where
     by-place : (List·Memᴰ a l → (k : ℕ) × (k < length l) × (getD l k d ≡ a)) → (a ≡ b) ⊎ List·Memᴰ a l
         → (k : ℕ) × (k < suc (length l)) × (getD (b ∷ l) k d ≡ a)
@@ -36,13 +37,25 @@ member-place {A} (b ∷ l) a d m = by-place (λ (k : List·Memᴰ a l). member-p
     by-place rest (inr k) = let r = rest k in (suc (r .0), omega (arith, r .1), r .2)
 
 module _ (ρs : List Rule) where
+  -- what holds of every rule and of its inverse holds of the rule of a number and a side
+  completed-every : (P : Rule → Type 0) → ((ρ : Rule) → List·Memᴰ ρ ρs → P ρ) → ((ρ : Rule) → List·Memᴰ ρ ρs → P (inverse ρ))
+      → (number side : ℕ) → number < length ρs → P (completed ρs number side)
+  unfolding completed
+  completed-every P here there number side h =
+      let m = getD-member ρs number (record { left = []; right = 0 }) h in
+      cond-both P (eqb side 0) (here _ m) (there _ m)
+
   pub completed-member : (number side : ℕ) → number < length ρs → List·Memᴰ (completed ρs number side) (completion ρs)
-  unfolding completed completion
-  completed-member number side h = by-test (eqb side 0) (getD ρs number (record { left = []; right = 0 })) (getD-member ρs number _ h)
-    where
-      by-test : (t : Bool) (ρ : Rule) → List·Memᴰ ρ ρs → List·Memᴰ (cond t ρ (inverse ρ)) (ρs ++ map inverse ρs)
-      by-test true ρ m = Memᴰ·append-left (map inverse ρs) m
-      by-test false ρ m = Memᴰ·append-right ρs (Memᴰ·map inverse m)
+  unfolding completion
+  completed-member =
+      completed-every (λ ρ. List·Memᴰ ρ (ρs ++ map inverse ρs)) (λ ρ m. Memᴰ·append-left (map inverse ρs) m)
+      (λ ρ m. Memᴰ·append-right ρs (Memᴰ·map inverse m))
+
+  -- no left side is empty
+  pub completed-some : ((ρ : Rule) → List·Memᴰ ρ ρs → 1 ≤ length (ρ .left))
+      → (number side : ℕ) → number < length ρs → 1 ≤ length (completed ρs number side .left)
+  unfolding inverse
+  completed-some some = completed-every (λ ρ. 1 ≤ length (ρ .left)) some (λ ρ m. rw (length-inv-chain (ρ .left)) (some ρ m))
 
   pub numbered : (ρ : Rule) → List·Memᴰ ρ (completion ρs) → Numbered ρs ρ
   unfolding completion completed
