@@ -3,3 +3,4 @@ pub mod StepLaws
 pub mod NumberedLaws
 pub mod LeadsLaws
 pub mod Derivations
+pub mod RunningLaws
