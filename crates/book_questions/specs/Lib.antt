@@ -1,3 +1,4 @@
 pub mod ShortQuestion
 pub mod RuleTable
+pub mod RuleTableLaws
 pub mod Admission
