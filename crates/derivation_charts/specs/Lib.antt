@@ -1,1 +1,3 @@
 pub mod Chart
+pub mod Reach
+pub mod ReachLaws
