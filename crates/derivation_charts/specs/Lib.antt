@@ -1,3 +1,4 @@
 pub mod Chart
+pub mod SplitsLaws
 pub mod Reach
 pub mod ReachLaws
