@@ -1,4 +1,5 @@
 pub mod Chart
 pub mod SplitsLaws
+pub mod CompleteLaws
 pub mod Reach
 pub mod ReachLaws
