@@ -3,3 +3,8 @@ pub mod Entering
 pub mod AddedLaws
 pub mod Searching
 pub mod EnteredLaws
+pub mod GrownLaws
+pub mod Spreading
+pub mod SpreadingLaws
+pub mod Progress
+pub mod ProgressLaws
