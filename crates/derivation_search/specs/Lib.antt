@@ -8,3 +8,5 @@ pub mod Spreading
 pub mod SpreadingLaws
 pub mod Progress
 pub mod ProgressLaws
+pub mod BlankedLaws
+pub mod BlankingLaws
