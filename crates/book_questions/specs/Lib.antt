@@ -1,4 +1,7 @@
 pub mod ShortQuestion
 pub mod RuleTable
 pub mod RuleTableLaws
+pub mod Completing
+pub mod CompletingLaws
 pub mod Admission
+pub mod AdmissionLaws
