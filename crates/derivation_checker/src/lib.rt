@@ -1,0 +1,54 @@
+// Checks a written derivation: whether its steps lead from a role to a chain by the rules of a book.
+ghost use mathlib.Core.Path.{_≡_};
+ghost use Rattle.base.specs.Result.Result.{ok};
+ghost use Rattle.roles.specs.Role.{same-chain};
+ghost use Rattle.derivation_steps.specs.WrittenSteps.{checked};
+ghost use Rattle.book_questions.specs.RuleTable.{Rules, rule-in};
+ghost use Rattle.book_questions.specs.Admission.{answers};
+
+mod step;
+
+use book_questions::BookAnswer;
+use refusals::BookQueryRefusal;
+use step::apply;
+use step::step_of;
+
+// Whether the steps lead from the role to the chain by the rules of a table, of which there are so many.
+fn follow(table: &[u8], rules: usize, role: u8, chain: &[u8], steps: &[u8]) -> BookAnswer
+    requires { ⌜ Rules (now table) rules ⌝ }
+    ensures { λ r. ⌜ answers r ≡ checked rules (rule-in (now (table .entry))) role (now (chain .entry)) (now (steps .entry)) ⌝ }
+{
+    if steps.len() % 4 != 0 {
+        return BookAnswer::Refused(BookQueryRefusal::Uneven);
+    }
+    let count = steps.len() / 4;
+    let mut links = [0u8; 16];
+    links[0] = role;
+    let mut size = 1;
+    let mut k = 0;
+    while k < count {
+        size = apply(table, rules, step_of(steps, k), &mut links, size);
+        if size == 0 {
+            return BookAnswer::Refused(BookQueryRefusal::Impossible(k));
+        }
+        k += 1;
+    }
+    same(&links[..size], chain)
+}
+
+// Yes where two chains are the same.
+fn same(a: &[u8], b: &[u8]) -> BookAnswer
+    ensures { λ r. ⌜ answers r ≡ ok (same-chain (now (a .entry)) (now (b .entry))) ⌝ }
+{
+    if a.len() != b.len() {
+        return BookAnswer::No;
+    }
+    let mut i = 0;
+    while i < a.len() {
+        if a[i] != b[i] {
+            return BookAnswer::No;
+        }
+        i += 1;
+    }
+    BookAnswer::Yes
+}
