@@ -1,10 +1,8 @@
 -- What is found of a question settles what checking gives: the refusal, or what the rules of the table give.
-use mathlib.Core.Bool.{Bool}
 use mathlib.Core.List.{List}
-use mathlib.Core.Path.{_≡_, refl, sym, ap, _∙_}
+use mathlib.Core.Path.{_≡_, refl, sym, _∙_}
 use Prim.Native.Nat.{ℕ}
 use lib.ListN.{length}
-use Rattle.base.specs.Result.{Result, and-then}
 use Rattle.base.specs.Result.Result.{refused, ok}
 use Rattle.base.specs.ResultLaws.{map-refused, map-ok}
 use Rattle.roles.specs.Role.{Chain}

@@ -5,13 +5,29 @@ ghost use Rattle.roles.specs.Role.{same-chain};
 ghost use Rattle.derivation_steps.specs.WrittenSteps.{checked};
 ghost use Rattle.book_questions.specs.RuleTable.{Rules, rule-in};
 ghost use Rattle.book_questions.specs.Admission.{answers};
+ghost use Rattle.derivation_checker.specs.CheckedDerivation.{checked-derivation};
 
 mod step;
 
+use book_questions::Admission;
 use book_questions::BookAnswer;
+use book_questions::admit;
 use refusals::BookQueryRefusal;
 use step::apply;
 use step::step_of;
+
+// Whether some bytes are a derivation of a chain from a role by the rules of a book, four bytes for each step: the first refusal of causes 1 to 8, 13, 14,
+// 15 and 17; else yes or no.
+pub fn check(book: &[u8], role: u8, chain: &[u8], steps: &[u8]) -> BookAnswer
+    ensures { λ r. ⌜ answers r ≡ checked-derivation (now (book .entry)) role (now (chain .entry)) (now (steps .entry)) ⌝ }
+{
+    let mut table = [0u8; 8192];
+    let admission = admit(book, role, chain, &mut table);
+    match admission {
+        Admission::Refused(refusal) => BookAnswer::Refused(refusal),
+        Admission::Admitted(rules) => follow(&table, rules, role, chain, steps),
+    }
+}
 
 // Whether the steps lead from the role to the chain by the rules of a table, of which there are so many.
 fn follow(table: &[u8], rules: usize, role: u8, chain: &[u8], steps: &[u8]) -> BookAnswer
