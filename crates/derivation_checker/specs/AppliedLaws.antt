@@ -17,6 +17,10 @@ module _ {table : List ℕ} {count : ℕ} {links : List ℕ} {size : ℕ} (ready
   abbrev at : ℕ
   at = entry (t .number) (t .side)
 
+  -- how many links its left side has
+  abbrev links-left : ℕ
+  links-left = links-in table (t .number) (t .side)
+
   abbrev Result : List ℕ → ℕ → Type 0
   Result = Applied count (rule-in table) t (take size links)
 
@@ -46,29 +50,29 @@ module _ {table : List ℕ} {count : ℕ} {links : List ℕ} {size : ℕ} (ready
   no-right l h = none (λ p. h (sym (getD-take size links (t .place) 0 l) ∙ p .right ∙ right-in table (t .number) (t .side)))
 
   module _ (listed : t .number < count) (side : t .side ≤ 1) where
-    left-size : length (rule-in table (t .number) (t .side) .left) ≡ links-in table (t .number) (t .side)
+    left-size : length (rule-in table (t .number) (t .side) .left) ≡ links-left
     left-size = left-length table (t .number) (t .side) count (ready .rules) listed side
 
     -- the left side, as it is read from the table
-    pub left-read : length (take (at + 2 + links-in table (t .number) (t .side) - (at + 2)) (drop (at + 2) table)) ≡ links-in table (t .number) (t .side)
+    pub left-read : length (take (at + 2 + links-left - (at + 2)) (drop (at + 2) table)) ≡ links-left
     left-read = ap length (slice-left table (t .number) (t .side)) ∙ left-size
 
-    pub left-some : 1 ≤ links-in table (t .number) (t .side)
+    pub left-some : 1 ≤ links-left
     left-some = ready .rules .some (t .number) (t .side) listed side
 
-    pub left-most : links-in table (t .number) (t .side) ≤ 8
+    pub left-most : links-left ≤ 8
     left-most = ready .rules .most (t .number) (t .side) listed side
 
-    pub no-room : 17 < size + links-in table (t .number) (t .side) → Result links 0
+    pub no-room : 17 < size + links-left → Result links 0
     no-room h = none (λ p. absurd (omega (arith, p .short, long, left-size)))
 
-    pub taken : t .place < size → getD links (t .place) 0 ≡ getD table at 0 → size + links-in table (t .number) (t .side) ≤ 17
-        → (left links′ : List ℕ) → left ≡ take (at + 2 + links-in table (t .number) (t .side) - (at + 2)) (drop (at + 2) table)
-        → Inserted links size (t .place) left links′ → Result links′ (size + links-in table (t .number) (t .side) - 1)
+    pub taken : t .place < size → getD links (t .place) 0 ≡ getD table at 0 → size + links-left ≤ 17
+        → (left links′ : List ℕ) → left ≡ take (at + 2 + links-left - (at + 2)) (drop (at + 2) table)
+        → Inserted links size (t .place) left links′ → Result links′ (size + links-left - 1)
     unfolding replaced
     taken l right short left links′ e h =
         let same : left ≡ rule-in table (t .number) (t .side) .left = e ∙ slice-left table (t .number) (t .side) in
-        let n : length left ≡ links-in table (t .number) (t .side) = ap length same ∙ left-size in
+        let n : length left ≡ links-left = ap length same ∙ left-size in
         record {
           none = λ z. absurd (omega (arith, left-some));
           some = λ _.

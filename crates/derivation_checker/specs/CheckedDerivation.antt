@@ -1,4 +1,4 @@
--- What checking a written derivation of a chain from a role gives by a book: causes 1 to 8, 13 to 15 and 17, else whether its steps lead to the chain.
+-- What checking a written derivation of a chain from a role by a book gives: causes 1 to 8, 13 to 15 and 17, else whether its steps lead there.
 use mathlib.Core.Bool.{Bool}
 use mathlib.Core.List.{List}
 use Prim.Native.Nat.{ℕ}

@@ -31,24 +31,31 @@ following-start table rules role steps links good even room e =
     }
 
 module _ {table : List ℕ} {rules role : ℕ} {steps links : List ℕ} {size k : ℕ} (f : Following table rules role steps links size k) where
-  module _ (l : k < length steps / 4) {t : WrittenStep} (e : t ≡ step-at steps k) {links′ : List ℕ} {size′ : ℕ} (taken : Applied rules (rule-in table) t (take size links) links′ size′) where
-    pub following-stop : size′ ≡ 0 → (w : Chain) → refused 17 k ≡ checked rules (rule-in table) role w steps
-    following-stop z w =
-        sym (checked-whole rules (rule-in table) steps role w (refused 17 k) (f .even)
-        (running-impossible rules (rule-in table) steps role (length steps / 4) k (take size links) l (f .running) (rw (← e) (taken .none z))))
+  module _
+      (l : k < length steps / 4)
+      {t : WrittenStep}
+      (e : t ≡ step-at steps k)
+      {links′ : List ℕ}
+      {size′ : ℕ}
+      (taken : Applied rules (rule-in table) t (take size links) links′ size′)
+    where
+      pub following-stop : size′ ≡ 0 → (w : Chain) → refused 17 k ≡ checked rules (rule-in table) role w steps
+      following-stop z w =
+          sym (checked-whole rules (rule-in table) steps role w (refused 17 k) (f .even)
+          (running-impossible rules (rule-in table) steps role (length steps / 4) k (take size links) l (f .running) (rw (← e) (taken .none z))))
 
-    pub following-next : (size′ ≡ 0 → ⊥) → Following table rules role steps links′ size′ (k + 1)
-    following-next z =
-        let some : 1 ≤ size′ = omega arith in
-        record {
-          ready = record { rules = f .ready .rules; room = taken .room; few = taken .few };
-          some = some;
-          even = f .even;
-          inside = omega arith;
-          running =
-              running-next rules (rule-in table) steps role (length steps / 4) k (take size links) l (f .running) (rw (← e) (taken .some some))
-              (take size′ links′) (rw (← e) (taken .chain some));
-        }
+      pub following-next : (size′ ≡ 0 → ⊥) → Following table rules role steps links′ size′ (k + 1)
+      following-next z =
+          let some : 1 ≤ size′ = omega arith in
+          record {
+            ready = record { rules = f .ready .rules; room = taken .room; few = taken .few };
+            some = some;
+            even = f .even;
+            inside = omega arith;
+            running =
+                running-next rules (rule-in table) steps role (length steps / 4) k (take size links) l (f .running) (rw (← e) (taken .some some))
+                (take size′ links′) (rw (← e) (taken .chain some));
+          }
 
   pub following-end : length steps / 4 ≤ k → (w : Chain) → ok (same-chain (take size links) w) ≡ checked rules (rule-in table) role w steps
   following-end l w =

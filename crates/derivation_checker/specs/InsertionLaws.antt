@@ -1,4 +1,4 @@
--- Laws of a step that is taken: links moved up and a left side put into the gap.
+-- Laws of a left side inserted in place: links moved up one by one, the last first, and the left side put into the gap.
 use mathlib.Core.List.{List, _∷_, [], _++_, append-assoc}
 use mathlib.Core.Path.{_≡_, refl, sym, ap, _∙_}
 use Prim.Native.Nat.{ℕ, suc, _+_, _-_, _<_, _≤_}
@@ -103,5 +103,6 @@ module _
         (omega arith) in
         record {
           room = rw f (length-paste l₁ place left (length left) (omega (arith, moved-length)) (omega arith)) ∙ moved-length;
-          chain = ap (take (size + length left - 1)) whole ∙ take-at (take place l ++ left ++ after) rest (size + length left - 1) long ∙ sym inserted-parts;
+          chain =
+              ap (take (size + length left - 1)) whole ∙ take-at (take place l ++ left ++ after) rest (size + length left - 1) long ∙ sym inserted-parts;
         }

@@ -16,8 +16,8 @@ use refusals::BookQueryRefusal;
 use step::apply;
 use step::step_of;
 
-// Whether some bytes are a derivation of a chain from a role by the rules of a book, four bytes for each step: the first refusal of causes 1 to 8, 13, 14,
-// 15 and 17; else yes or no.
+// Whether some bytes, four for each step, are a derivation of a chain from a role by the rules of a book: the first refusal of causes 1 to 8,
+// 13, 14, 15 and 17; else yes or no.
 pub fn check(book: &[u8], role: u8, chain: &[u8], steps: &[u8]) -> BookAnswer
     ensures { λ r. ⌜ answers r ≡ checked-derivation (now (book .entry)) role (now (chain .entry)) (now (steps .entry)) ⌝ }
 {

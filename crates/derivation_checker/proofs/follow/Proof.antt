@@ -20,12 +20,14 @@ abbrev μ-loop : tie.MeasureT-loop
 returns : tie.Need-returns Inv-loop μ-loop
 returns c =
     let entry = c .before .before .before .before .args in
-    sym (checked-uneven (entry .rules) (rule-in (entry .table .now)) (entry .steps .now) (entry .role) (entry .chain .now) (c .if1 .taken))
+    sym (checked-uneven (entry .rules) (rule-in (entry .table .now)) (entry .steps .now) (entry .role) (entry .chain .now)
+    (λ e. omega arith))
 
 loop-holds : tie.Need-loop-holds Inv-loop μ-loop
 loop-holds c =
     let start = c .before .before .before .before in
-    (refl, following-start (start .args .table .now) (start .args .rules) (start .args .role) (start .args .steps .now) _ (start .pre) (c .if1 .left) refl refl)
+    let entry = start .args in
+    (refl, following-start (entry .table .now) (entry .rules) (entry .role) (entry .steps .now) _ (start .pre) (c .if1 .left) refl refl)
 
 step-of-requires : tie.Need-step-of-requires Inv-loop μ-loop
 step-of-requires c κs = omega arith
@@ -39,16 +41,15 @@ apply-requires c κs = c .before .before .before .loop .inv .1 .ready
 returns-2 : tie.Need-returns-2 Inv-loop μ-loop
 returns-2 c =
     let turn = c .before .before .before .before .before in
-    following-stop (turn .before .loop .inv .1) (omega arith) (c .before .before .before .before .step-of .ensures) (c .before .before .apply .ensures)
-    (c .if2 .taken) _
+    let applied = c .before .before .apply .ensures in
+    following-stop (turn .before .loop .inv .1) (omega arith) (c .before .before .before .before .step-of .ensures) applied (c .if2 .taken) _
 
 loop-again : tie.Need-loop-again Inv-loop μ-loop
 loop-again c =
-    let turn = c .before .before .before .before .before in (
-      turn .before .loop .inv .0,
-      following-next (turn .before .loop .inv .1) (omega arith) (c .before .before .before .before .step-of .ensures) (c .before .before .apply .ensures)
-          (c .if2 .left),
-    )
+    let turn = c .before .before .before .before .before in
+    let inv = turn .before .loop .inv in
+    let applied = c .before .before .apply .ensures in
+    (inv .0, following-next (inv .1) (omega arith) (c .before .before .before .before .step-of .ensures) applied (c .if2 .left))
 
 slice-aggregate-same : tie.Need-slice-aggregate-same Inv-loop μ-loop
 slice-aggregate-same c =

@@ -10,13 +10,13 @@ use Rattle.derivation_checker.proofs.step.apply.Statement.{statement}
 use Rattle.derivation_checker.proofs.step.apply.Tie as tie
 
 returns : tie.Need-returns
-returns c = let start = c .before .before .before in no-place (start .pre) (written (start .args .step)) (c .if1 .taken)
+returns c = let start = c .before .before .before in no-place (start .pre) (written (start .args .step)) (omega arith)
 
 returns-2 : tie.Need-returns-2
-returns-2 c = let start = c .before .before .before .before in no-rule (start .pre) (written (start .args .step)) (c .if2 .taken)
+returns-2 c = let start = c .before .before .before .before in no-rule (start .pre) (written (start .args .step)) (omega arith)
 
 returns-3 : tie.Need-returns-3
-returns-3 c = let start = c .before .before .before .before .before in no-side (start .pre) (written (start .args .step)) (c .if3 .taken)
+returns-3 c = let start = c .before .before .before .before .before in no-side (start .pre) (written (start .args .step)) (omega arith)
 
 returns-4 : tie.Need-returns-4
 returns-4 c =
@@ -35,13 +35,13 @@ most c =
 returns-5 : tie.Need-returns-5
 returns-5 c =
     let start = c .before .before .before .before .before .before .before .before .before .before in
-    no-room (start .pre) (written (start .args .step)) (omega arith) (omega arith) (c .if5 .taken)
+    no-room (start .pre) (written (start .args .step)) (omega arith) (omega arith) (omega arith)
 
--- src/step.rt:64:32
+-- it ends inside the table
 part-insert-end : tie.Need-part-insert-end
 part-insert-end c = omega (arith, most (c .before .before))
 
--- src/step.rt:64:5
+-- it is not empty, and leaves at most 16 links
 insert-requires : tie.Need-insert-requires
 insert-requires c κs =
     let start = c .before .before .before .before .before .before .before .before .before .before .before .before in
@@ -53,8 +53,8 @@ returns-6 : tie.Need-returns-6
 returns-6 c =
     let inserted = c .before .before in
     let start = inserted .before .before .before .before .before .before .before .before .before .before .before .before .before in
-    let step = written (start .args .step) in
-    taken (start .pre) step (omega arith) (omega arith) (omega arith) (inserted .before .before .before .before .before .if4 .left) (omega arith) _ _ refl (inserted .insert .ensures)
+    let right = inserted .before .before .before .before .before .if4 .left in
+    taken (start .pre) (written (start .args .step)) (omega arith) (omega arith) (omega arith) right (omega arith) _ _ refl (inserted .insert .ensures)
 
 pub apply-spec : {M : Type 1} → statement M
 apply-spec =

@@ -9,8 +9,8 @@ returns : tie.Need-returns
 returns c =
     let shifted = c .before .before .before .before .before .before in
     let entry = shifted .before .before .before .before .args in
-    inserted-whole (entry .links .now) (entry .left .now) (entry .size) (entry .place) (omega arith) (omega arith) (omega arith) _ (shifted .shift .ensures) _
-    (c .before .before .put .ensures)
+    inserted-whole (entry .links .now) (entry .left .now) (entry .size) (entry .place) (omega arith) (omega arith) (omega arith)
+    _ (shifted .shift .ensures) _ (c .before .before .put .ensures)
 
 pub insert-spec : {M : Type 1} → statement M
 insert-spec =
