@@ -1,8 +1,10 @@
 -- What is found of a question settles what checking gives: the refusal, or what the rules of the table give.
+use mathlib.Core.Bool.{Bool}
 use mathlib.Core.List.{List}
 use mathlib.Core.Path.{_≡_, refl, sym, _∙_}
 use Prim.Native.Nat.{ℕ}
 use lib.ListN.{length}
+use Rattle.base.specs.Result.{Result}
 use Rattle.base.specs.Result.Result.{refused, ok}
 use Rattle.base.specs.ResultLaws.{map-refused, map-ok}
 use Rattle.roles.specs.Role.{Chain}
@@ -37,6 +39,6 @@ module _ {s : List ℕ} {r : ℕ} {w : Chain} {table table′ : List ℕ} {a : A
     pub rules-tabled : Rules table′ count
     rules-tabled = rw (asked .2) (tabled .rules)
 
-    pub checked-tabled : (steps : List ℕ) → checked count (rule-in table′) r w steps ≡ checked-derivation s r w steps
+    pub checked-tabled : (steps : List ℕ) {q : Result Bool} → q ≡ checked count (rule-in table′) r w steps → q ≡ checked-derivation s r w steps
     unfolding checked-derivation
-    checked-tabled steps = rw (asked .2, asked .1) (tabled-checked (asked .0 .rules) table′ tabled r w steps)
+    checked-tabled steps d = d ∙ rw (asked .2, asked .1) (tabled-checked (asked .0 .rules) table′ tabled r w steps)

@@ -1,9 +1,11 @@
 -- Steps followed one by one on a chain in place: what holds before step k, and that a step which is taken keeps it.
+use mathlib.Core.Bool.{Bool}
 use mathlib.Core.List.{List, _∷_, []}
-use mathlib.Core.Path.{_≡_, sym, subst}
+use mathlib.Core.Path.{_≡_, sym, _∙_, subst}
 use Prim.Native.Nat.{ℕ, _+_, _/_, _%_, _<_, _≤_}
 use native.Mathlib.Omega.{arith}
 use lib.ListN.{length, take}
+use Rattle.base.specs.Result.{Result}
 use Rattle.base.specs.Result.Result.{refused, ok}
 use Rattle.roles.specs.Role.{Chain, same-chain}
 use Rattle.derivation_steps.specs.WrittenSteps.{WrittenStep, step-at, checked}
@@ -57,9 +59,10 @@ module _ {table : List ℕ} {rules role : ℕ} {steps links : List ℕ} {size k 
                 (take size′ links′) (rw (← e) (taken .chain some));
           }
 
-  pub following-end : length steps / 4 ≤ k → (w : Chain) → ok (same-chain (take size links) w) ≡ checked rules (rule-in table) role w steps
-  following-end l w =
+  pub following-end : length steps / 4 ≤ k → (w : Chain) {q : Result Bool} → q ≡ ok (same-chain (take size links) w)
+      → q ≡ checked rules (rule-in table) role w steps
+  following-end l w d =
       let e : k ≡ length steps / 4 = omega (arith, f .inside) in
-      sym (checked-whole rules (rule-in table) steps role w (ok (take size links)) (f .even)
+      d ∙ sym (checked-whole rules (rule-in table) steps role w (ok (take size links)) (f .even)
       (running-end rules (rule-in table) steps role (length steps / 4) (take size links)
       (subst (λ (n : ℕ). Running rules (rule-in table) steps role (length steps / 4) n (take size links)) e (f .running))))

@@ -1,5 +1,5 @@
 -- `check` meets its contract: the refusal of the question, or what its steps give by the table of the book's rules.
-use mathlib.Core.Path.{ap, _∙_}
+use mathlib.Core.Path.{ap}
 use Prim.Native.Nat.{ℕ}
 use borrow.Author.Needs.{needs}
 use lib.ListN.{length-replicate}
@@ -21,8 +21,8 @@ returns c =
 returns-2 : tie.Need-returns-2
 returns-2 c =
     let told = c .before .before .before in
-    c .follow .ensures
-    ∙ checked-tabled (told .before .before .before .admit .ensures) (ap says (told .admission2 .given .1)) (length-replicate {A = ℕ} 8192 0) _
+    checked-tabled (told .before .before .before .admit .ensures) (ap says (told .admission2 .given .1)) (length-replicate {A = ℕ} 8192 0) _
+    (c .follow .ensures)
 
 pub check-spec : {M : Type 1} → statement M
 check-spec =

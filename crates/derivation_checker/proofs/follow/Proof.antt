@@ -1,5 +1,5 @@
 -- `follow` meets its contract. The invariant: the steps before k are followed.
-use mathlib.Core.Path.{_≡_, refl, sym, _∙_}
+use mathlib.Core.Path.{_≡_, refl, sym}
 use Prim.Native.Nat.{_-_, _/_}
 use native.Mathlib.Omega.{arith}
 use borrow.Author.Needs.{needs}
@@ -60,7 +60,7 @@ array-share-prefix-links : tie.Need-array-share-prefix-links Inv-loop μ-loop
 array-share-prefix-links c = omega (arith, c .before .loop .inv .1 .ready .few)
 
 returns-3 : tie.Need-returns-3 Inv-loop μ-loop
-returns-3 c = c .same .ensures ∙ following-end (c .before .before .before .loop .inv .1) (omega arith) _
+returns-3 c = following-end (c .before .before .before .loop .inv .1) (omega arith) _ (c .same .ensures)
 
 pub follow-spec : {M : Type 1} → statement M
 follow-spec =
