@@ -10,3 +10,5 @@ pub mod Progress
 pub mod ProgressLaws
 pub mod BlankedLaws
 pub mod BlankingLaws
+pub mod Listing
+pub mod SearchedLaws
