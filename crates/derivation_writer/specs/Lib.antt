@@ -1,0 +1,3 @@
+pub mod WritesDerivation
+pub mod Pending
+pub mod PendingLaws
