@@ -1,3 +1,5 @@
 pub mod WritesDerivation
 pub mod Pending
 pub mod PendingLaws
+pub mod Division
+pub mod DivisionLaws

@@ -1,0 +1,50 @@
+-- A role gives way to the left side of its rule: the step that is written, where the parts of the left roles end, and the pending roles then.
+use mathlib.Core.Bool.{true}
+use mathlib.Core.List.{List, _++_}
+use mathlib.Core.Logic.{_⊎_}
+use mathlib.Core.Path.{_≡_}
+use Prim.Native.Nat.{ℕ, suc, _+_, _*_, _/_, _%_, _^_, _<_, _≤_}
+use lib.ListN.{length, getD, take, drop}
+use lib.Seq.{sets}
+use Rattle.name_sets.specs.Mask.{has}
+use Rattle.roles.specs.Role.{Chain}
+use Rattle.derivation_steps.specs.WrittenSteps.{step-at}
+use Rattle.derivation_charts.specs.Chart.{Found, Splits}
+use Rattle.derivation_writer.specs.Pending.{roles-of, Tiles}
+
+-- a step is written, at a place and by the rule of number q / 2 and side q % 2; the other bytes stay
+pub record StepPut (old : List ℕ) (at place q : ℕ) (new : List ℕ) : Type 0 where
+  pub size : length new ≡ length old
+  pub others : (x : ℕ) → (x < 4 * at) ⊎ (4 * at + 4 ≤ x) → getD new x 0 ≡ getD old x 0
+  pub step : step-at new at ≡ record { place = place; number = q / 2; side = q % 2 }
+
+-- m is where the t-th role of a left side can end, of the part from i to j that it spells with those behind it
+pub record CutAt (chart : List ℕ) (left : Chain) (t i j m : ℕ) : Type 0 where
+  pub near : m < 64
+  pub found : Found chart i m (getD left t 0)
+  pub behind : Splits (Found chart) (drop (t + 1) left) m j
+
+-- such a place is left in a set of places where the role can end
+pub record Cutting (chart : List ℕ) (left : Chain) (t i j rest : ℕ) : Type 0 where
+  pub fits : rest < 2 ^ 64
+  pub found : (m : ℕ) → has rest m ≡ true → Found chart i m (getD left t 0)
+  pub place : ℕ
+  pub member : has rest place ≡ true
+  pub behind : Splits (Found chart) (drop (t + 1) left) place j
+
+-- pending numbers for the first t roles, whose parts go from i to m, are stored from a place on; the other roles spell the part from m to j
+pub record Dividing (chart : List ℕ) (left : Chain) (i j : ℕ) (old : List ℕ) (first t m : ℕ) (new : List ℕ) : Type 0 where
+  pub pairs : List ℕ
+  pub named : roles-of pairs ≡ take t left
+  pub tiles : Tiles (Found chart) pairs i m
+  pub behind : Splits (Found chart) (drop t left) m j
+  pub stored : new ≡ sets old first pairs
+
+-- pending numbers for the whole left side stand in the place of the pending role at the top
+pub record Divided (chart : List ℕ) (left : Chain) (i j : ℕ) (old : List ℕ) (top : ℕ) (new : List ℕ) (first : ℕ) : Type 0 where
+  pub pairs : List ℕ
+  pub named : roles-of pairs ≡ left
+  pub tiles : Tiles (Found chart) pairs i j
+  pub place : first + length left ≡ suc top
+  pub size : length new ≡ length old
+  pub stored : drop first new ≡ pairs ++ drop (suc top) old

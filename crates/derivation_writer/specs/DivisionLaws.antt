@@ -1,0 +1,178 @@
+-- Laws of a role giving way to the left side of its rule.
+use mathlib.Core.Bool.{true, false, true≢false, false≢true}
+use mathlib.Core.List.{List, [], _∷_, _++_, append-assoc, map-append}
+use mathlib.Core.Logic.{_⊎_, inl, inr}
+use mathlib.Core.Path.{_≡_, refl, sym, ap, ap₂, _∙_, subst}
+use Prim.Native.Nat.{ℕ, suc, _+_, _-_, _*_, _/_, _%_, _^_, _<_, _≤_}
+use native.Mathlib.Numerals.{add-one}
+use native.Mathlib.Omega.{arith}
+use lib.Bits.{bitXor, xor-lt}
+use lib.ListN.{length, getD, take, drop, set, length-set, length-map, drop-of-length-le}
+use lib.Pow.{pow-lt}
+use lib.Seq.{sets, sets-eq, length-sets, drop-cons, drop-at, take-suc, take-all, length-take-le, getD-set-same, getD-set-other}
+use Rattle.base.specs.Truth.{eq-or-ne}
+use Rattle.base.specs.WritingLaws.{sets-append}
+use Rattle.name_sets.specs.Mask.{has}
+use Rattle.name_sets.specs.MaskLaws.{has-zero}
+use Rattle.name_sets.specs.MemberLaws.{without-other, without-own}
+use Rattle.roles.specs.Role.{Chain}
+use Rattle.derivation_steps.specs.WrittenSteps.{step-at}
+use Rattle.derivation_charts.specs.Chart.{ends-of, Found, Splits}
+use Rattle.derivation_charts.specs.Chart.Splits.{none, more}
+use Rattle.derivation_writer.specs.Pending.{end-of, role-of, roles-of, Tiles}
+use Rattle.derivation_writer.specs.Pending.Tiles.{none as no-tile, more as tile}
+use Rattle.derivation_writer.specs.PendingLaws.{tiles-append}
+use Rattle.derivation_writer.specs.Division.{StepPut, CutAt, Cutting, Dividing, Divided}
+
+-- four bytes stored
+module _ (s : List ℕ) (at a b c d : ℕ) (h : 4 * at + 3 < length s) where
+  one : List ℕ
+  one = set s (4 * at) a
+
+  two : List ℕ
+  two = set one (4 * at + 1) b
+
+  three : List ℕ
+  three = set two (4 * at + 2) c
+
+  written : List ℕ
+  written = set three (4 * at + 3) d
+
+  byte-0 : getD written (4 * at) 0 ≡ a
+  unfolding written three two one
+  byte-0 =
+      getD-set-other three (4 * at + 3) (4 * at) d 0 (omega arith)
+      ∙ (getD-set-other two (4 * at + 2) (4 * at) c 0 (omega arith)
+      ∙ (getD-set-other one (4 * at + 1) (4 * at) b 0 (omega arith) ∙ getD-set-same s (4 * at) a 0 (omega arith)))
+
+  byte-1 : getD written (4 * at + 1) 0 ≡ b
+  unfolding written three two one
+  byte-1 =
+      getD-set-other three (4 * at + 3) (4 * at + 1) d 0 (omega arith)
+      ∙ (getD-set-other two (4 * at + 2) (4 * at + 1) c 0 (omega arith) ∙ getD-set-same one (4 * at + 1) b 0 (simp length-set (omega arith)))
+
+  byte-2 : getD written (4 * at + 2) 0 ≡ c
+  unfolding written three two one
+  byte-2 = getD-set-other three (4 * at + 3) (4 * at + 2) d 0 (omega arith) ∙ getD-set-same two (4 * at + 2) c 0 (simp length-set (omega arith))
+
+  byte-3 : getD written (4 * at + 3) 0 ≡ d
+  unfolding written three two one
+  byte-3 = getD-set-same three (4 * at + 3) d 0 (simp length-set (omega arith))
+
+  others : (x : ℕ) → (x < 4 * at) ⊎ (4 * at + 4 ≤ x) → getD written x 0 ≡ getD s x 0
+  unfolding written three two one
+  others x o =
+      getD-set-other three (4 * at + 3) x d 0 (apart o 3 (omega arith))
+      ∙ (getD-set-other two (4 * at + 2) x c 0 (apart o 2 (omega arith))
+      ∙ (getD-set-other one (4 * at + 1) x b 0 (apart o 1 (omega arith)) ∙ getD-set-other s (4 * at) x a 0 (λ e. apart o 0 (omega arith) (omega arith))))
+    where
+      apart : (x < 4 * at) ⊎ (4 * at + 4 ≤ x) → (k : ℕ) → k < 4 → x ≡ 4 * at + k → ⊥
+      apart (inl p) k l e = omega arith
+      apart (inr p) k l e = omega arith
+
+pub step-put : (s : List ℕ) (at place q : ℕ) → 4 * at + 3 < length s
+    → StepPut s at place q (set (set (set (set s (4 * at) place) (4 * at + 1) 0) (4 * at + 2) (q / 2)) (4 * at + 3) (q % 2))
+unfolding step-at written three two one
+step-put s at place q h =
+    let t = written s at place 0 (q / 2) (q % 2) h in
+    let low : getD t (4 * at) 0 + 256 * getD t (4 * at + 1) 0 ≡ place
+            = omega (arith, byte-0 s at place 0 (q / 2) (q % 2) h, byte-1 s at place 0 (q / 2) (q % 2) h) in
+    record {
+      size = simp length-set;
+      others = others s at place 0 (q / 2) (q % 2) h;
+      step = λ i. record { place = low i; number = byte-2 s at place 0 (q / 2) (q % 2) h i; side = byte-3 s at place 0 (q / 2) (q % 2) h i };
+    }
+
+-- where a role can end, of those behind which the others go on
+module _ {chart : List ℕ} {left : Chain} {t i j : ℕ} where
+  pub cutting-start : t < length left → ends-of chart i (getD left t 0) < 2 ^ 64 → Splits (Found chart) (drop t left) i j
+      → Cutting chart left t i j (ends-of chart i (getD left t 0))
+  cutting-start h fits s = first (subst (λ (v : Chain). Splits (Found chart) v i j) (drop-cons left t 0 h) s)
+    where
+      first : Splits (Found chart) (getD left t 0 ∷ drop (suc t) left) i j → Cutting chart left t i j (ends-of chart i (getD left t 0))
+      first (more m f q) = record { fits = fits; found = λ m h. h; place = m; member = f; behind = rw add-one q }
+
+  module _ {rest : ℕ} (c : Cutting chart left t i j rest) where
+    pub cut-found : (m : ℕ) → m < 64 → has rest m ≡ true → Splits (Found chart) (drop (t + 1) left) m j → CutAt chart left t i j m
+    cut-found m l h q = record { near = l; found = c .found m h; behind = q }
+
+    pub cutting-next : (m : ℕ) → m < 64 → has rest m ≡ true → (Splits (Found chart) (drop (t + 1) left) m j → ⊥) → Cutting chart left t i j (bitXor rest (2 ^ m))
+    cutting-next m l own n =
+        record {
+          fits = xor-lt 64 _ _ (c .fits) (pow-lt l);
+          found = λ x h. found x h (eq-or-ne x m);
+          place = c .place;
+          member = without-other rest m (c .place) (λ e. n (subst (λ (x : ℕ). Splits (Found chart) (drop (t + 1) left) x j) e (c .behind))) ∙ c .member;
+          behind = c .behind;
+        }
+      where
+        found : (x : ℕ) → has (bitXor rest (2 ^ m)) x ≡ true → (x ≡ m) ⊎ (x ≡ m → ⊥) → Found chart i x (getD left t 0)
+        found x h (inl e) = absurd (false≢true (sym (without-own rest m own) ∙ subst (λ (y : ℕ). has (bitXor rest (2 ^ m)) y ≡ true) e h))
+        found x h (inr e) = c .found x (sym (without-other rest m x e) ∙ h)
+
+    pub cutting-end : rest ≡ 0 → ⊥
+    cutting-end e = false≢true (sym (has-zero (c .place)) ∙ subst (λ (x : ℕ). has x (c .place) ≡ true) e (c .member))
+
+-- parts up to a place from which no role is left
+tiles-to : {F : (i j r : ℕ) → Type 0} {ps : List ℕ} {i m j : ℕ} → Tiles F ps i m → Splits F [] m j → Tiles F ps i j
+tiles-to t none = t
+
+-- the roles of a left side stored one after another
+module _ {chart : List ℕ} {left : Chain} {i j : ℕ} {old : List ℕ} {first : ℕ} where
+  pub dividing-start : Splits (Found chart) left i j → Dividing chart left i j old first 0 i old
+  dividing-start s = record { pairs = []; named = refl; tiles = no-tile; behind = s; stored = refl }
+
+  module _ {t m : ℕ} {new : List ℕ} (d : Dividing chart left i j old first t m new) where
+    pub dividing-next : {n : ℕ} → t < length left → getD left t 0 < 128 → CutAt chart left t m j n
+        → Dividing chart left i j old first (t + 1) n (set new (first + t) (128 * n + getD left t 0))
+    dividing-next {n} l low c =
+        record {
+          pairs = d .pairs ++ (p ∷ []);
+          named = named;
+          tiles = tiles-append (d .tiles) (subst (Tiles (Found chart) (p ∷ []) m) end (tile (rw (end, role) (c .found)) no-tile));
+          behind = c .behind;
+          stored = stored;
+        }
+      where
+        p : ℕ
+        p = 128 * n + getD left t 0
+
+        end : end-of p ≡ n
+        end = omega arith
+
+        role : role-of p ≡ getD left t 0
+        role = omega arith
+
+        many : length (d .pairs) ≡ t
+        many = sym (length-map (d .pairs) role-of) ∙ (ap length (d .named) ∙ length-take-le t left (omega arith))
+
+        named : roles-of (d .pairs ++ (p ∷ [])) ≡ take (t + 1) left
+        named = map-append role-of (d .pairs) (p ∷ []) ∙ (ap₂ (λ (a : List ℕ) (b : ℕ). a ++ (b ∷ [])) (d .named) role ∙ rw add-one (sym (take-suc left t 0 l)))
+
+        stored : set new (first + t) p ≡ sets old first (d .pairs ++ (p ∷ []))
+        stored = ap₂ (λ (a : List ℕ) (k : ℕ). set a (first + k) p) (d .stored) (sym many) ∙ sets-append old first (d .pairs) (p ∷ [])
+
+    pub dividing-end : {top : ℕ} → length left ≤ t → first + length left ≡ suc top → top < length old → Divided chart left i j old top new first
+    dividing-end {top} h place room =
+        record {
+          pairs = d .pairs;
+          named = named;
+          tiles = tiles-to (d .tiles) (subst (λ (v : Chain). Splits (Found chart) v m j) (drop-of-length-le left h) (d .behind));
+          place = place;
+          size = ap length (d .stored) ∙ length-sets old first (d .pairs);
+          stored = stored;
+        }
+      where
+        named : roles-of (d .pairs) ≡ left
+        named = d .named ∙ take-all t left h
+
+        many : length (d .pairs) ≡ length left
+        many = sym (length-map (d .pairs) role-of) ∙ ap length named
+
+        past : first + length (d .pairs) ≡ suc top
+        past = omega (arith, many)
+
+        stored : drop first new ≡ d .pairs ++ drop (suc top) old
+        stored =
+            ap (drop first) (d .stored ∙ (sets-eq (d .pairs) old first (omega (arith, past)) ∙ append-assoc (take first old) (d .pairs) _))
+            ∙ (drop-at (take first old) _ first (length-take-le first old (omega arith)) ∙ rw past refl)
