@@ -6,10 +6,13 @@ use mathlib.Core.Path.{_≡_, refl, sym, ap, ap₂, _∙_, subst}
 use Prim.Native.Nat.{ℕ, suc, _+_, _-_, _*_, _/_, _%_, _^_, _<_, _≤_}
 use native.Mathlib.Numerals.{add-one}
 use native.Mathlib.Omega.{arith}
+use borrow.Author.Tests.{eqb-true, eqb-false}
 use lib.Bits.{bitXor, xor-lt}
-use lib.ListN.{length, getD, take, drop, set, length-set, length-map, drop-of-length-le}
+use lib.Dec.{eqb}
+use lib.ListN.{length, getD, take, drop, set, length-set, length-drop, length-map, drop-of-length-le}
 use lib.Pow.{pow-lt}
 use lib.Seq.{sets, sets-eq, length-sets, drop-cons, drop-at, take-suc, take-all, length-take-le, getD-set-same, getD-set-other}
+use Rattle.base.specs.Reflects.{Reflects, decides-no}
 use Rattle.base.specs.Truth.{eq-or-ne}
 use Rattle.base.specs.WritingLaws.{sets-append}
 use Rattle.name_sets.specs.Mask.{has}
@@ -19,6 +22,8 @@ use Rattle.roles.specs.Role.{Chain}
 use Rattle.derivation_steps.specs.WrittenSteps.{step-at}
 use Rattle.derivation_charts.specs.Chart.{ends-of, Found, Splits}
 use Rattle.derivation_charts.specs.Chart.Splits.{none, more}
+use Rattle.book_questions.specs.RuleTable.{entry, rule-in}
+use Rattle.book_questions.specs.RuleTableLaws.{slice-left}
 use Rattle.derivation_writer.specs.Pending.{end-of, role-of, roles-of, Tiles}
 use Rattle.derivation_writer.specs.Pending.Tiles.{none as no-tile, more as tile}
 use Rattle.derivation_writer.specs.PendingLaws.{tiles-append}
@@ -76,7 +81,7 @@ unfolding step-at written three two one
 step-put s at place q h =
     let t = written s at place 0 (q / 2) (q % 2) h in
     let low : getD t (4 * at) 0 + 256 * getD t (4 * at + 1) 0 ≡ place
-            = omega (arith, byte-0 s at place 0 (q / 2) (q % 2) h, byte-1 s at place 0 (q / 2) (q % 2) h) in
+    = omega (arith, byte-0 s at place 0 (q / 2) (q % 2) h, byte-1 s at place 0 (q / 2) (q % 2) h) in
     record {
       size = simp length-set;
       others = others s at place 0 (q / 2) (q % 2) h;
@@ -123,6 +128,9 @@ module _ {chart : List ℕ} {left : Chain} {i j : ℕ} {old : List ℕ} {first :
   dividing-start s = record { pairs = []; named = refl; tiles = no-tile; behind = s; stored = refl }
 
   module _ {t m : ℕ} {new : List ℕ} (d : Dividing chart left i j old first t m new) where
+    pub dividing-size : length new ≡ length old
+    dividing-size = ap length (d .stored) ∙ length-sets old first (d .pairs)
+
     pub dividing-next : {n : ℕ} → t < length left → getD left t 0 < 128 → CutAt chart left t m j n
         → Dividing chart left i j old first (t + 1) n (set new (first + t) (128 * n + getD left t 0))
     dividing-next {n} l low c =
@@ -159,7 +167,7 @@ module _ {chart : List ℕ} {left : Chain} {i j : ℕ} {old : List ℕ} {first :
           named = named;
           tiles = tiles-to (d .tiles) (subst (λ (v : Chain). Splits (Found chart) v m j) (drop-of-length-le left h) (d .behind));
           place = place;
-          size = ap length (d .stored) ∙ length-sets old first (d .pairs);
+          size = dividing-size;
           stored = stored;
         }
       where
@@ -176,3 +184,21 @@ module _ {chart : List ℕ} {left : Chain} {i j : ℕ} {old : List ℕ} {first :
         stored =
             ap (drop first) (d .stored ∙ (sets-eq (d .pairs) old first (omega (arith, past)) ∙ append-assoc (take first old) (d .pairs) _))
             ∙ (drop-at (take first old) _ first (length-take-le first old (omega arith)) ∙ rw past refl)
+
+-- what stands of a part: not a single link, or its only link beside a role
+pub stands-not : {A : Type 0} (i j : ℕ) → (j - i ≡ 1 → ⊥) → Reflects false ((j ≡ i + 1) × A)
+stands-not i j n = decides-no _ (λ h. n (omega (arith, h .0)))
+
+pub stands-link : (i j a r : ℕ) → j - i ≡ 1 → Reflects (eqb a r) ((j ≡ i + 1) × (a ≡ r))
+stands-link i j a r e = record { holds = λ h. (omega arith, eqb-true a r h); fails = λ h p. eqb-false a r h (p .1) }
+
+-- the left side of a completed rule, as it is read from a table
+pub left-read : (table : List ℕ) (q : ℕ)
+    → take (16 * q + 2 + getD table (16 * q + 1) 0 - (16 * q + 2)) (drop (16 * q + 2) table) ≡ rule-in table (q / 2) (q % 2) .left
+left-read table q =
+    let e : 16 * q ≡ entry (q / 2) (q % 2) = omega arith in
+    rw e (slice-left table (q / 2) (q % 2))
+
+-- all that stands behind a place, as a slice reads it
+pub read-behind : (s : List ℕ) (k : ℕ) → take (length s - k) (drop k s) ≡ drop k s
+read-behind s k = take-all (length s - k) (drop k s) (simp length-drop (omega arith))

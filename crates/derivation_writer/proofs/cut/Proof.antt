@@ -1,0 +1,79 @@
+-- `cut` meets its contract. The invariant: a place where the role can end is left.
+use mathlib.Core.Bool.{true}
+use mathlib.Core.List.{List}
+use mathlib.Core.Path.{_≡_, refl, sym, _∙_, subst}
+use Prim.Native.Nat.{ℕ, _+_, _<_, _^_}
+use native.Mathlib.Omega.{arith}
+use borrow.Author.Needs.{needs}
+use lib.Count.{trailingZeros}
+use lib.ListN.{drop}
+use Rattle.base.specs.Reflects.{Reflects}
+use Rattle.name_sets.specs.Mask.{has, count}
+use Rattle.name_sets.specs.MemberLaws.{lowest, only-named, without-fewer}
+use Rattle.derivation_charts.specs.Chart.{Found, Splits}
+use Rattle.derivation_writer.specs.Division.{Cutting}
+use Rattle.derivation_writer.specs.DivisionLaws.{cutting-start, cutting-next, cutting-end, cut-found, read-behind}
+use Rattle.derivation_writer.proofs.cut.Statement.{statement}
+use Rattle.derivation_writer.proofs.cut.Tie as tie
+
+abbrev Inv-loop : tie.InvT-loop
+Inv-loop chart left t i end after rest₀ rest = Cutting chart left t i end rest
+
+abbrev μ-loop : tie.MeasureT-loop
+μ-loop chart left t i end after rest₀ rest = count 64 (has rest)
+
+loop-holds : tie.Need-loop-holds Inv-loop μ-loop
+loop-holds c =
+    let entry = c .before .before .before .before in
+    rw (c .ends .ensures) (cutting-start (entry .pre .0 .0) (rw (← c .ends .ensures) (c .ends .ok)) (entry .pre .1))
+
+-- the lowest place left
+low : (c : tie.In-loop Inv-loop μ-loop) → (trailingZeros 64 (c .before .loop .rest) < 64) × (has (c .before .loop .rest) (trailingZeros 64 (c .before .loop .rest)) ≡ true)
+low c = lowest 64 (c .before .loop .rest) (let h = c .loop-test .taken in omega arith) (c .before .loop .inv .fits)
+
+-- what is reached from there tells whether the roles behind go on to the end
+tells : (c : tie.After-has Inv-loop μ-loop) → Reflects (c .has .result) (Splits (Found (c .before .before .before .before .before .before .before .before .before .args .chart .now)) (drop (c .before .before .before .before .before .before .before .before .before .args .t + 1) (c .before .before .before .before .before .before .before .before .before .args .left .now)) (trailingZeros 64 (c .before .before .before .before .loop .rest)) (c .before .before .before .before .before .before .before .before .before .args .end))
+tells c =
+    let entry = c .before .before .before .before .before .before .before .before .before in
+    subst (λ (v : List ℕ). Reflects (c .has .result) (Splits (Found (entry .args .chart .now)) v (trailingZeros 64 (c .before .before .before .before .loop .rest)) (entry .args .end))) (read-behind (entry .args .left .now) (entry .args .t + 1))
+    (rw (c .has .ensures) (c .before .reach .ensures (entry .args .end) (entry .pre .0 .1)))
+
+returns : tie.Need-returns Inv-loop μ-loop
+returns c =
+    let turn = c .before .before .before .before in
+    cut-found (turn .before .loop .inv) _ (low turn .0) (low turn .1) (tells (c .before) .holds (c .if1 .taken))
+
+loop-less : tie.Need-loop-less Inv-loop μ-loop
+loop-less c =
+    let turn = c .before .before .before .before .before in
+    rw (c .single .ensures, only-named _ (low turn .0)) (without-fewer _ _ (low turn .0) (low turn .1))
+
+loop-again : tie.Need-loop-again Inv-loop μ-loop
+loop-again c =
+    let turn = c .before .before .before .before .before in
+    rw (c .single .ensures, only-named _ (low turn .0)) (cutting-next (turn .before .loop .inv) _ (low turn .0) (low turn .1) (tells (c .before .before) .fails (c .before .if1 .left)))
+
+returns-2 : tie.Need-returns-2 Inv-loop μ-loop
+returns-2 c = absurd (cutting-end (c .before .loop .inv) (c .loop-test .left))
+
+pub cut-spec : {M : Type 1} → statement M
+cut-spec =
+    tie.close
+    (tie.spec
+    Inv-loop
+    μ-loop
+    (λ c. search needs)
+    (λ c. search needs)
+    (λ c κs. search needs)
+    loop-holds
+    (λ c. omega (arith, low c .0))
+    (λ c. search needs)
+    (λ c. search needs)
+    (λ c. search needs)
+    (λ c κs. search needs)
+    (λ c κs. search needs)
+    returns
+    (λ c κs. search needs)
+    loop-less
+    loop-again
+    returns-2)
