@@ -3,3 +3,5 @@ pub mod Pending
 pub mod PendingLaws
 pub mod Division
 pub mod DivisionLaws
+pub mod Tracing
+pub mod TracingLaws

@@ -17,6 +17,11 @@ pub tiles-append : {F : (i j r : ℕ) → Type 0} {ps qs : List ℕ} {i m j : �
 tiles-append none q = q
 tiles-append (more f p) q = more f (tiles-append p q)
 
+pub left-over-first : (rank : (i j r : ℕ) → ℕ) (p : ℕ) (ps : List ℕ) (i : ℕ)
+    → left-over rank (p ∷ ps) i ≡ 255 * (end-of p - i - 1) + rank i (end-of p) (role-of p) + left-over rank ps (end-of p)
+unfolding left-over
+left-over-first rank p ps i = refl
+
 pub left-over-append : {F : (i j r : ℕ) → Type 0} {ps : List ℕ} {i m : ℕ} (rank : (i j r : ℕ) → ℕ) → Tiles F ps i m → (qs : List ℕ)
     → left-over rank (ps ++ qs) i ≡ left-over rank ps i + left-over rank qs m
 unfolding left-over

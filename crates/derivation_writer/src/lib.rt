@@ -21,6 +21,13 @@ pub enum Derivation {
     Refused(BookQueryRefusal),
 }
 
+// How far the writing is: the top of the pending roles, how many links stand, how many steps are written.
+struct Place {
+    top: usize,
+    link: usize,
+    step: usize,
+}
+
 // Writes step `at`: at a place, by the completed rule q.
 fn put(steps: &mut [u8], at: usize, place: usize, q: usize)
     requires { ⌜ (4 * at + 3 < length (now steps)) × (place < 256) × (q < 512) ⌝ }
