@@ -225,3 +225,17 @@ module _ {table : List ℕ} {w : Chain} {chart : List ℕ} (ready : Ready table 
         less =
             left-over-less (length w) (ready .charted .inside) rank (ready .charted .low) (top-role pending p) (d .tiles)
             (omega (arith, many, ap length e, g .some)) (λ r h. g .lower r (sym (d .named ∙ e) ∙ h))
+
+-- one turn, for all that may have been traced
+module _ {table : List ℕ} {w : Chain} {chart steps pending : List ℕ} {p : Place} (f : First w chart pending p) where
+  pub turned-link : (top-end pending p ≡ p .link + 1) × (getD w (p .link) 0 ≡ top-role pending p)
+      → Turned table w chart steps pending p steps pending (record { top = p .top + 1; link = p .link + 1; step = p .step })
+  turned-link e = record { onward = omega arith; tracing = λ ready role old a. tracing-link ready role old f a e }
+
+  pub turned-rule : (q : ℕ) → q ≡ by chart (p .link) (top-end pending p) (top-role pending p)
+      → ((top-end pending p ≡ p .link + 1) × (getD w (p .link) 0 ≡ top-role pending p) → ⊥)
+      → {steps′ pending′ : List ℕ} {left : Chain} {top : ℕ} → left ≡ rule-in table (q / 2) (q % 2) .left
+      → StepPut steps (p .step) (p .link) q steps′ → Divided chart left (p .link) (top-end pending p) pending (p .top) pending′ top
+      → Turned table w chart steps pending p steps′ pending′ (record { top = top; link = p .link; step = p .step + 1 })
+  turned-rule q e n l s d =
+      record { onward = omega arith; tracing = λ ready role old a. tracing-rule ready role old f a q (given ready f q e n) l s d }

@@ -1,0 +1,86 @@
+-- `turn` meets its contract.
+use mathlib.Core.Path.{_≡_, refl, sym}
+use Prim.Native.Nat.{ℕ, _+_, _*_, _/_, _%_, _<_, _≤_}
+use native.Mathlib.Omega.{arith}
+use borrow.Author.Needs.{needs}
+use Rattle.derivation_writer.specs.PendingLaws.{role-below}
+use Rattle.derivation_writer.specs.TracingLaws.{First, first, first-inside, Given, given, turned-link, turned-rule}
+use Rattle.derivation_writer.proofs.turn.Statement.{statement}
+use Rattle.derivation_writer.proofs.turn.Tie as tie
+
+top-first : (c : tie.Start) → First (c .args .chain .now) (c .args .chart .now) (c .args .pending .now) (c .args .place)
+top-first c = first (c .pre .1 .1) (c .pre .1 .0)
+
+by-rule : (c : tie.After-rule-by) → Given (c .before .before .before .before .before .before .before .before .before .pre .0) (top-first (c .before .before .before .before .before .before .before .before .before)) (c .rule-by .result)
+by-rule c =
+    let entry = c .before .before .before .before .before .before .before .before .before in
+    given (entry .pre .0) (top-first entry) (c .rule-by .result) (c .rule-by .ensures) (c .before .before .stands .ensures .fails (c .before .if1 .left))
+
+cast-end : tie.Need-cast-end
+cast-end c =
+    let entry = c .before .before .before .before .before .before in
+    omega (arith, first-inside (entry .pre .0) (top-first entry) .1, entry .pre .0 .charted .short)
+
+stands-requires : tie.Need-stands-requires
+stands-requires c κs = let entry = c .before .before .before .before .before .before in first-inside (entry .pre .0) (top-first entry)
+
+add-t20 : tie.Need-add-t20
+add-t20 c =
+    let entry = c .before .before .before .before .before .before .before .before in
+    let inside = first-inside (entry .pre .0) (top-first entry) in
+    omega (arith, inside .0, inside .1, entry .pre .0 .charted .short)
+
+returns : tie.Need-returns
+returns c = turned-link (top-first (c .before .before .before .before .before .before .before .before)) (c .before .stands .ensures .holds (c .if1 .taken))
+
+rule-by-requires : tie.Need-rule-by-requires
+rule-by-requires c κs =
+    let entry = c .before .before .before .before .before .before .before .before in
+    let inside = first-inside (entry .pre .0) (top-first entry) in
+    (entry .pre .0 .charted .size, inside .0, omega (arith, inside .1, entry .pre .0 .charted .short), role-below _)
+
+put-requires : tie.Need-put-requires
+put-requires c κs =
+    let entry = c .before .before .before .before .before .before .before .before .before .before in
+    let inside = first-inside (entry .pre .0) (top-first entry) in
+    (omega (arith, entry .pre .1 .2, entry .pre .1 .3), omega (arith, inside .0, inside .1, entry .pre .0 .charted .short), by-rule (c .before) .small)
+
+left-of-requires : tie.Need-left-of-requires
+left-of-requires c κs = let g = by-rule (c .before .before .before .before) in (g .small, c .before .before .before .before .before .before .before .before .before .before .before .before .before .pre .0 .rules .size, g .links)
+
+divide-requires : tie.Need-divide-requires
+divide-requires c κs =
+    let entry = c .before .before .before .before .before .before .before .before .before .before .before .before .before .before .before in
+    let g = by-rule (c .before .before .before .before .before .before) in
+    rw (c .before .left-of .ensures)
+    ((g .room, omega (arith, entry .pre .1 .1, entry .pre .1 .0 .size), omega (arith, first-inside (entry .pre .0) (top-first entry) .1, entry .pre .0 .charted .short)), (g .named, g .splits))
+
+add-t15 : tie.Need-add-t15
+add-t15 c = omega (arith, c .before .before .before .before .before .before .before .before .before .before .before .before .before .before .before .before .before .before .pre .1 .2)
+
+returns-2 : tie.Need-returns-2
+returns-2 c =
+    let given = c .before .before .before .before .before .before .before .before .before in
+    turned-rule (top-first (c .before .before .before .before .before .before .before .before .before .before .before .before .before .before .before .before .before .before)) _ (given .rule-by .ensures) (given .before .before .stands .ensures .fails (given .before .if1 .left))
+    (c .before .before .before .before .left-of .ensures) (c .before .before .before .before .before .before .before .put .ensures) (c .before .before .divide .ensures)
+
+pub turn-spec : {M : Type 1} → statement M
+turn-spec =
+    tie.close
+    (tie.spec
+    (λ c. search needs)
+    (λ c. search needs)
+    cast-end
+    (λ c. search needs)
+    stands-requires
+    (λ c. search needs)
+    add-t20
+    returns
+    rule-by-requires
+    put-requires
+    left-of-requires
+    divide-requires
+    add-t15
+    (λ c. search needs)
+    (λ c. search needs)
+    returns-2)
