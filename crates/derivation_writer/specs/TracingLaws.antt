@@ -5,8 +5,8 @@ use mathlib.Core.Path.{_≡_, refl, sym, ap, ap₂, _∙_, subst}
 use Prim.Native.Nat.{ℕ, suc, _+_, _-_, _*_, _/_, _%_, _<_, _≤_}
 use native.Mathlib.Numerals.{add-one}
 use native.Mathlib.Omega.{arith}
-use lib.ListN.{length, getD, take, drop, length-append, length-drop, length-map, drop-of-length-le}
-use lib.Seq.{drop-cons, take-suc, take-all, length-take-le, append-snoc}
+use lib.ListN.{length, getD, take, drop, set, length-append, length-drop, length-set, length-map, drop-of-length-le}
+use lib.Seq.{drop-cons, getD-set-same, take-suc, take-all, length-take-le, append-snoc}
 use Rattle.base.specs.Result.Result.{ok}
 use Rattle.roles.specs.Role.{Chain}
 use Rattle.derivation_steps.specs.WrittenSteps.{leads}
@@ -148,6 +148,10 @@ module _ {table : List ℕ} {w : Chain} {chart : List ℕ} (ready : Ready table 
     unfolding left-over
     bound = subst (λ (l : List ℕ). p .step + left-over rank l (p .link) ≤ 3952) (f .cons) (a .bound)
 
+    -- links and steps are few
+    pub tracing-near : p .step + p .link < 4000
+    tracing-near = omega (arith, bound, inside .0, inside .1, ready .charted .short)
+
     -- it is the next link
     pub tracing-link : (top-end pending p ≡ p .link + 1) × (getD w (p .link) 0 ≡ top-role pending p)
         → Tracing ready role old steps pending (record { top = p .top + 1; link = p .link + 1; step = p .step })
@@ -239,3 +243,9 @@ module _ {table : List ℕ} {w : Chain} {chart steps pending : List ℕ} {p : Pl
       → Turned table w chart steps pending p steps′ pending′ (record { top = top; link = p .link; step = p .step + 1 })
   turned-rule q e n l s d =
       record { onward = omega arith; tracing = λ ready role old a. tracing-rule ready role old f a q (given ready f q e n) l s d }
+
+-- one role pending, in the last place
+pub last-pending : (pending : List ℕ) (p : ℕ) → length pending ≡ 16 → drop 15 (set pending 15 p) ≡ p ∷ []
+last-pending pending p size =
+    drop-cons (set pending 15 p) 15 0 (simp length-set (omega arith))
+    ∙ ap₂ _∷_ (getD-set-same pending 15 p 0 (omega arith)) (drop-of-length-le (set pending 15 p) {i = 16} (simp length-set (omega arith)))
