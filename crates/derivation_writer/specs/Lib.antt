@@ -5,3 +5,4 @@ pub mod Division
 pub mod DivisionLaws
 pub mod Tracing
 pub mod TracingLaws
+pub mod WritesLaws

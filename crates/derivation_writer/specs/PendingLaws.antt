@@ -1,12 +1,11 @@
 -- Laws of pending roles: parts joined, how many fit, and the bound on steps, which falls by 1 where a role gives way to the left side of its rule.
 use mathlib.Core.List.{List, [], _∷_, _++_}
 use mathlib.Core.Path.{_≡_, refl, sym}
-use Prim.Native.Nat.{ℕ, suc, _+_, _-_, _*_, _/_, _%_, _<_, _≤_}
-use native.Mathlib.Nat.{mod-lt, add-assoc, zero-add}
+use Prim.Native.Nat.{ℕ, _+_, _-_, _*_, _<_, _≤_}
+use native.Mathlib.Nat.{mod-lt, zero-add}
 use native.Mathlib.Omega.{arith}
 use lib.Dec.{lit<}
 use lib.ListN.{length}
-use Rattle.roles.specs.Role.{Chain}
 use Rattle.derivation_writer.specs.Pending.{end-of, role-of, roles-of, Tiles, left-over}
 use Rattle.derivation_writer.specs.Pending.Tiles.{none, more}
 

@@ -9,7 +9,7 @@ use Rattle.derivation_steps.specs.WrittenSteps.{leads}
 use Rattle.derivation_charts.specs.Chart.{Found, Charted}
 use Rattle.book_questions.specs.RuleTable.{rule-in, Rules}
 use Rattle.derivation_writer.specs.Pending.{roles-of, Tiles, left-over}
-use Rattle.derivation_writer.specs.declared.Place.{Place}
+use Rattle.derivation_writer.specs.declared.trace.Place.{Place}
 
 -- a table of some rules, and a chart of the parts of a chain by them
 pub record Ready (table : List ℕ) (w : Chain) (chart : List ℕ) : Type 0 where

@@ -1,6 +1,6 @@
 -- Laws of writing the steps of a derivation: its start, a link that stands, a role that gives way to the left side of its rule, and its end.
 use mathlib.Core.List.{List, [], _∷_, _++_, append-nil, map-append}
-use mathlib.Core.Logic.{_⊎_, inl, inr}
+use mathlib.Core.Logic.{inl, inr}
 use mathlib.Core.Path.{_≡_, refl, sym, ap, ap₂, _∙_, subst}
 use Prim.Native.Nat.{ℕ, suc, _+_, _-_, _*_, _/_, _%_, _<_, _≤_}
 use native.Mathlib.Numerals.{add-one}
@@ -11,17 +11,17 @@ use Rattle.base.specs.Result.Result.{ok}
 use Rattle.roles.specs.Role.{Chain}
 use Rattle.derivation_steps.specs.WrittenSteps.{leads}
 use Rattle.derivation_steps.specs.LeadsLaws.{leads-same, leads-step}
-use Rattle.derivation_charts.specs.Chart.{Found, Splits, Charted, Reason, Ruled, by}
+use Rattle.derivation_charts.specs.Chart.{Found, Splits, Reason, by}
 use Rattle.derivation_charts.specs.Chart.Reason.{letter, ruled}
 use Rattle.derivation_charts.specs.SplitsLaws.{splits-long, charted-forward}
-use Rattle.book_questions.specs.RuleTable.{rule-in, entry, links-in, Rules}
+use Rattle.book_questions.specs.RuleTable.{rule-in, entry}
 use Rattle.book_questions.specs.RuleTableLaws.{left-length, left-below}
 use Rattle.derivation_writer.specs.Pending.{end-of, role-of, roles-of, Tiles, left-over}
 use Rattle.derivation_writer.specs.Pending.Tiles.{none, more}
 use Rattle.derivation_writer.specs.PendingLaws.{role-below, tiles-append, left-over-append, tiles-long, left-over-less}
 use Rattle.derivation_writer.specs.Division.{StepPut, Divided}
 use Rattle.derivation_writer.specs.Tracing.{Ready, Pends, Tracing, Traced, Turned}
-use Rattle.derivation_writer.specs.declared.Place.{Place}
+use Rattle.derivation_writer.specs.declared.trace.Place.{Place}
 
 -- the first pending role: the end of its part, and the role itself
 abbrev top-end : List ℕ → Place → ℕ

@@ -1,17 +1,18 @@
 // Writes a derivation out: the steps from a role to a chain, from a chart of the roles that derive its parts.
-ghost use mathlib.Core.Path.{_≡_};
-ghost use Prim.Native.Nat.{ℕ, _+_, _*_, _/_, _%_, _<_, _≤_};
-ghost use lib.ListN.{length, getD, drop};
-ghost use Rattle.base.specs.Reflects.{Reflects};
-ghost use Rattle.derivation_charts.specs.Chart.{Found, Splits, by};
-ghost use Rattle.book_questions.specs.RuleTable.{rule-in};
-ghost use Rattle.derivation_writer.specs.Division.{StepPut, CutAt, Divided};
-ghost use Rattle.derivation_writer.specs.Tracing.{Ready, Pends, Traced, Turned};
+ghost use mathlib.Core.List.{List};
+ghost use Prim.Native.Nat.{_<_};
+ghost use lib.ListN.{length};
+ghost use Rattle.roles.specs.Rule.{Rule, Book};
+ghost use Rattle.derivation_search.specs.Searched.{Searched};
+ghost use Rattle.derivation_writer.specs.WritesLaws.{Gives};
+
+mod division;
+mod trace;
+
 use derivation_charts::ends;
-use derivation_charts::reach;
 use name_sets::has;
-use name_sets::single;
 use refusals::BookQueryRefusal;
+use trace::trace;
 
 // What is said of a derivation that is asked for.
 pub enum Derivation {
@@ -22,174 +23,17 @@ pub enum Derivation {
     Refused(BookQueryRefusal),
 }
 
-// How far the writing is: the top of the pending roles, how many links stand, how many steps are written.
-struct Place {
-    top: usize,
-    link: usize,
-    step: usize,
-}
-
-// Writes the steps from the role to the chain, and returns how many.
-fn trace(table: &[u8], chain: &[u8], chart: &[u16], role: u8, steps: &mut [u8]) -> usize
-    requires { ⌜ Ready (now table) (now chain) (now chart) ⌝ }
-    requires { ⌜ (role < 128) × Found (now chart) 0 (length (now chain)) role × (16384 ≤ length (now steps)) ⌝ }
-    ensures { λ r. ⌜ ((ready : Ready (now (table .entry)) (now (chain .entry)) (now (chart .entry))) → Traced ready role (now (steps .entry)) (now (steps .exit)) r) ⌝ }
+// The same for a chain of which is found which roles derive its parts.
+fn give(table: &[u8], chain: &[u8], chart: &[u16], role: u8, steps: &mut [u8]) -> Derivation
+    requires { ⌜ ((ρs : List Rule) × Searched ρs (now chain) (now table) (now chart)) × (role < 128) ⌝ }
+    ensures { λ r. ⌜ ((b : Book) → Searched (b .rules) (now (chain .entry)) (now (table .entry)) (now (chart .entry))
+        → Gives b role (now (chain .entry)) (now (steps .entry)) (now (steps .exit)) r) ⌝ }
 {
-    let mut pending = [0u16; 16];
-    walk(table, chain, chart, role, &mut pending, steps)
-}
-
-// The same, with room for the pending roles: at first the role itself, for the whole chain.
-fn walk(
-    table: &[u8],
-    chain: &[u8],
-    chart: &[u16],
-    role: u8,
-    pending: &mut [u16],
-    steps: &mut [u8],
-) -> usize
-    requires { ⌜ Ready (now table) (now chain) (now chart) ⌝ }
-    requires { ⌜ (role < 128) × Found (now chart) 0 (length (now chain)) role × (16384 ≤ length (now steps)) × (length (now pending) ≡ 16) ⌝ }
-    ensures { λ r. ⌜ ((ready : Ready (now (table .entry)) (now (chain .entry)) (now (chart .entry))) → Traced ready role (now (steps .entry)) (now (steps .exit)) r) ⌝ }
-{
-    pending[15] = pair(role, chain.len());
-    let mut place = Place {
-        top: 15,
-        link: 0,
-        step: 0,
-    };
-    while place.top < 16 {
-        place = turn(table, chain, chart, place, pending, steps);
+    if steps.len() < 16384 {
+        return Derivation::Refused(BookQueryRefusal::Buffer);
     }
-    place.step
-}
-
-// Passes over the first pending role, where that is the next link, or puts the left side of its rule in its place, by a step more.
-fn turn(
-    table: &[u8],
-    chain: &[u8],
-    chart: &[u16],
-    place: Place,
-    pending: &mut [u16],
-    steps: &mut [u8],
-) -> Place
-    requires { ⌜ Ready (now table) (now chain) (now chart) ⌝ }
-    requires { ⌜ Pends (now chain) (now chart) (now pending) place × (place .top < 16) × (place .step < 4096) × (16384 ≤ length (now steps)) ⌝ }
-    ensures { λ r. ⌜ Turned (now (table .entry)) (now (chain .entry)) (now (chart .entry)) (now (steps .entry)) (now (pending .entry)) place
-        (now (steps .exit)) (now (pending .exit)) r ⌝ }
-{
-    let top = place.top;
-    let i = place.link;
-    let at = place.step;
-    let first = pending[top];
-    let end = (first / 128) as usize;
-    let role = (first % 128) as u8;
-    if stands(chain, i, end, role) {
-        return Place {
-            top: top + 1,
-            link: i + 1,
-            step: at,
-        };
+    if !has(ends(chart, 0, role), chain.len()) {
+        return Derivation::None;
     }
-    let q = rule_by(chart, i, end, role);
-    put(steps, at, i, q);
-    let new_top = divide(chart, left_of(table, q), i, end, pending, top);
-    Place {
-        top: new_top,
-        link: i,
-        step: at + 1,
-    }
-}
-
-// Writes step `at`: at a place, by the completed rule q.
-fn put(steps: &mut [u8], at: usize, place: usize, q: usize)
-    requires { ⌜ (4 * at + 3 < length (now steps)) × (place < 256) × (q < 512) ⌝ }
-    ensures { λ _. ⌜ StepPut (now (steps .entry)) at place q (now (steps .exit)) ⌝ }
-{
-    steps[4 * at] = place as u8;
-    steps[4 * at + 1] = 0;
-    steps[4 * at + 2] = (q / 2) as u8;
-    steps[4 * at + 3] = (q % 2) as u8;
-}
-
-// Whether the part from link i to `end` is one link, and that link the role.
-fn stands(chain: &[u8], i: usize, end: usize, role: u8) -> bool
-    requires { ⌜ (i < end) × (end ≤ length (now chain)) ⌝ }
-    ensures { λ r. ⌜ Reflects r ((end ≡ i + 1) × (getD (now (chain .entry)) i 0 ≡ role)) ⌝ }
-{
-    if end - i != 1 {
-        return false;
-    }
-    chain[i] == role
-}
-
-// The completed rule that a role was found by for a part.
-fn rule_by(chart: &[u16], i: usize, end: usize, role: u8) -> usize
-    requires { ⌜ (length (now chart) ≡ 37008) × (i < end) × (end ≤ 16) × (role < 128) ⌝ }
-    ensures { λ r. ⌜ r ≡ by (now (chart .entry)) i end role ⌝ }
-{
-    chart[2176 + 128 * (16 * i + (end - 1)) + role as usize] as usize
-}
-
-// The left side of the completed rule q.
-fn left_of(table: &[u8], q: usize) -> &[u8]
-    requires { ⌜ (q < 512) × (length (now table) ≡ 8192) × (getD (now table) (16 * q + 1) 0 ≤ 8) ⌝ }
-    ensures { λ r. ⌜ now r ≡ rule-in (now (table .entry)) (q / 2) (q % 2) .left ⌝ }
-{
-    let start = 16 * q + 2;
-    let end = start + table[16 * q + 1] as usize;
-    &table[start..end]
-}
-
-// A role still to derive, with the end of its part.
-fn pair(role: u8, end: usize) -> u16
-    requires { ⌜ end < 64 ⌝ }
-    ensures { λ r. ⌜ r ≡ 128 * end + role ⌝ }
-{
-    (128 * end + role as usize) as u16
-}
-
-// Puts the roles of a left side that spells the part from a link to `end`, each with its end, in the place of the pending role at the top. Returns the
-// new top.
-fn divide(
-    chart: &[u16],
-    left: &[u8],
-    from: usize,
-    end: usize,
-    pending: &mut [u16],
-    top: usize,
-) -> usize
-    requires { ⌜ (length (now left) ≤ top + 1) × (top < length (now pending)) × (end < 64) ⌝ }
-    requires { ⌜ ((k : ℕ) → k < length (now left) → getD (now left) k 0 < 128) ⌝ }
-    requires { ⌜ Splits (Found (now chart)) (now left) from end ⌝ }
-    ensures { λ r. ⌜ Divided (now (chart .entry)) (now (left .entry)) from end (now (pending .entry)) top (now (pending .exit)) r ⌝ }
-{
-    let first = top + 1 - left.len();
-    let mut i = from;
-    let mut t = 0;
-    while t < left.len() {
-        let next = cut(chart, left, t, i, end);
-        pending[first + t] = pair(left[t], next);
-        i = next;
-        t += 1;
-    }
-    first
-}
-
-// Where the t-th role of a left side can end, of the part from link i to `end` that it spells with those behind it.
-fn cut(chart: &[u16], left: &[u8], t: usize, i: usize, end: usize) -> usize
-    requires { ⌜ (t < length (now left)) × (end < 64) ⌝ }
-    requires { ⌜ Splits (Found (now chart)) (drop t (now left)) i end ⌝ }
-    ensures { λ r. ⌜ CutAt (now (chart .entry)) (now (left .entry)) t i end r ⌝ }
-{
-    let after = t + 1;
-    let mut rest = ends(chart, i, left[t]);
-    while rest != 0 {
-        let m = u64::trailing_zeros(rest) as usize;
-        if has(reach(chart, &left[after..], m), end) {
-            return m;
-        }
-        rest = rest ^ single(m);
-    }
-    end
+    Derivation::Steps(trace(table, chain, chart, role, steps))
 }

@@ -1,8 +1,8 @@
 -- `cut` meets its contract. The invariant: a place where the role can end is left.
 use mathlib.Core.Bool.{true}
 use mathlib.Core.List.{List}
-use mathlib.Core.Path.{_≡_, refl, sym, _∙_, subst}
-use Prim.Native.Nat.{ℕ, _+_, _<_, _^_}
+use mathlib.Core.Path.{_≡_, subst}
+use Prim.Native.Nat.{ℕ, _+_, _<_}
 use native.Mathlib.Omega.{arith}
 use borrow.Author.Needs.{needs}
 use lib.Count.{trailingZeros}
@@ -13,8 +13,8 @@ use Rattle.name_sets.specs.MemberLaws.{lowest, only-named, without-fewer}
 use Rattle.derivation_charts.specs.Chart.{Found, Splits}
 use Rattle.derivation_writer.specs.Division.{Cutting}
 use Rattle.derivation_writer.specs.DivisionLaws.{cutting-start, cutting-next, cutting-end, cut-found, read-behind}
-use Rattle.derivation_writer.proofs.cut.Statement.{statement}
-use Rattle.derivation_writer.proofs.cut.Tie as tie
+use Rattle.derivation_writer.proofs.division.cut.Statement.{statement}
+use Rattle.derivation_writer.proofs.division.cut.Tie as tie
 
 abbrev Inv-loop : tie.InvT-loop
 Inv-loop chart left t i end after rest₀ rest = Cutting chart left t i end rest

@@ -1,14 +1,13 @@
 -- `walk` meets its contract. The invariant: the steps written so far lead to the links that stand, followed by the pending roles.
-use mathlib.Core.List.{List, [], _∷_}
-use mathlib.Core.Path.{_≡_, refl, sym, _∙_, ap}
-use Prim.Native.Nat.{ℕ, _+_, _-_, _*_, _<_, _≤_}
+use mathlib.Core.List.{[], _∷_}
+use mathlib.Core.Path.{sym, _∙_, ap}
+use Prim.Native.Nat.{ℕ, _+_, _-_}
 use native.Mathlib.Omega.{arith}
-use borrow.Author.Needs.{needs}
-use lib.ListN.{length, length-set}
+use lib.ListN.{length-set}
 use Rattle.derivation_writer.specs.Tracing.{Ready, Tracing}
-use Rattle.derivation_writer.specs.TracingLaws.{First, first, tracing-start, tracing-near, tracing-end, last-pending}
-use Rattle.derivation_writer.proofs.walk.Statement.{statement}
-use Rattle.derivation_writer.proofs.walk.Tie as tie
+use Rattle.derivation_writer.specs.TracingLaws.{first, tracing-start, tracing-near, tracing-end, last-pending}
+use Rattle.derivation_writer.proofs.trace.walk.Statement.{statement}
+use Rattle.derivation_writer.proofs.trace.walk.Tie as tie
 
 abbrev Inv-loop : tie.InvT-loop
 Inv-loop table chain chart role pending₀ steps₀ place₀ pending steps place = (ready : Ready table chain chart) → Tracing ready role steps₀ steps pending place

@@ -1,12 +1,10 @@
 -- `turn` meets its contract.
-use mathlib.Core.Path.{_≡_, refl, sym}
-use Prim.Native.Nat.{ℕ, _+_, _*_, _/_, _%_, _<_, _≤_}
 use native.Mathlib.Omega.{arith}
 use borrow.Author.Needs.{needs}
 use Rattle.derivation_writer.specs.PendingLaws.{role-below}
 use Rattle.derivation_writer.specs.TracingLaws.{First, first, first-inside, Given, given, turned-link, turned-rule}
-use Rattle.derivation_writer.proofs.turn.Statement.{statement}
-use Rattle.derivation_writer.proofs.turn.Tie as tie
+use Rattle.derivation_writer.proofs.trace.turn.Statement.{statement}
+use Rattle.derivation_writer.proofs.trace.turn.Tie as tie
 
 top-first : (c : tie.Start) → First (c .args .chain .now) (c .args .chart .now) (c .args .pending .now) (c .args .place)
 top-first c = first (c .pre .1 .1) (c .pre .1 .0)

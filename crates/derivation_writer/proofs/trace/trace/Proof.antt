@@ -1,8 +1,7 @@
 -- `trace` meets its contract.
 use mathlib.Core.Path.{refl}
-use borrow.Author.Needs.{needs}
-use Rattle.derivation_writer.proofs.trace.Statement.{statement}
-use Rattle.derivation_writer.proofs.trace.Tie as tie
+use Rattle.derivation_writer.proofs.trace.trace.Statement.{statement}
+use Rattle.derivation_writer.proofs.trace.trace.Tie as tie
 
 walk-requires : tie.Need-walk-requires
 walk-requires c κs = let pre = c .before .before .before .before .before .before .pre in (pre .0, (pre .1 .0, pre .1 .1, pre .1 .2, refl))

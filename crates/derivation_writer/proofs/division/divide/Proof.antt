@@ -1,13 +1,12 @@
 -- `divide` meets its contract. The invariant: the roles before t are stored with their ends, and the others spell the rest of the part.
-use mathlib.Core.Path.{sym}
-use Prim.Native.Nat.{ℕ, _+_, _-_, _≤_}
+use Prim.Native.Nat.{_-_}
 use native.Mathlib.Omega.{arith}
 use borrow.Author.Needs.{needs}
 use lib.ListN.{length}
 use Rattle.derivation_writer.specs.Division.{Dividing}
 use Rattle.derivation_writer.specs.DivisionLaws.{dividing-start, dividing-next, dividing-end, dividing-size}
-use Rattle.derivation_writer.proofs.divide.Statement.{statement}
-use Rattle.derivation_writer.proofs.divide.Tie as tie
+use Rattle.derivation_writer.proofs.division.divide.Statement.{statement}
+use Rattle.derivation_writer.proofs.division.divide.Tie as tie
 
 abbrev Inv-loop : tie.InvT-loop
 Inv-loop chart left from end pending₀ top first i₀ t₀ pending i t = Dividing chart left from end pending₀ first t i pending

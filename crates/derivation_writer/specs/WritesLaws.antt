@@ -1,0 +1,129 @@
+-- What is written meets the promise: for each refusal, for a chain that is not derived, and for steps that lead to it.
+use mathlib.Core.Bool.{true, false, true≢false}
+use mathlib.Core.List.{List, [], _∷_, _++_}
+use mathlib.Core.Path.{_≡_, refl, sym, ap, _∙_, subst}
+use Prim.Native.Nat.{ℕ, _+_, _*_, _<_, _≤_}
+use native.Mathlib.Omega.{arith}
+use borrow.Author.Tests.{le-leb, lt-leb}
+use lib.Dec.{leb}
+use lib.ListN.{length, take, drop, length-drop, take-append-drop}
+use lib.Seq.{length-take-le, getD-drop, ext-getD}
+use Rattle.base.specs.Result.{Result, demand, and-then}
+use Rattle.base.specs.Result.Result.{refused, ok}
+use Rattle.base.specs.ResultLaws.{demand-test, demand-rest, map-refused, map-ok, refused-ok}
+use Rattle.base.specs.Writing.{over}
+use Rattle.name_sets.specs.Mask.{has}
+use Rattle.roles.specs.Role.{Chain}
+use Rattle.roles.specs.Rule.{Book, Rule}
+use Rattle.book_format.specs.Format.{named}
+use Rattle.book_format.specs.DeclaredLaws.{named-link}
+use Rattle.book_format.specs.ReadLaws.{read-few-names}
+use Rattle.refusals.specs.declared.book_query.BookQueryRefusal.{BookQueryRefusal}
+use Rattle.refusals.specs.declared.book_query.BookQueryRefusal.the-variants.{Buffer}
+use Rattle.book_causes.specs.Ordered.{ordered}
+use Rattle.book_causes.specs.OrderedRun.{ordered-read}
+use Rattle.query_causes.specs.Query.{question, chain-fits}
+use Rattle.derivation_steps.specs.WrittenSteps.{checked, completed, derivation}
+use Rattle.derivation_steps.specs.LeadsLaws.{leads-front, checked-steps}
+use Rattle.derivation_steps.specs.RunningLaws.{checked-agree}
+use Rattle.derivation_charts.specs.Chart.{ends-of}
+use Rattle.book_questions.specs.ShortQuestion.{short-question, asked-book}
+use Rattle.book_questions.specs.RuleTable.{rule-in}
+use Rattle.book_questions.specs.declared.Admission.{Admission}
+use Rattle.book_questions.specs.declared.Admission.the-variants.{Admitted, Refused as Refused-admission}
+use Rattle.book_questions.specs.Admission.{says}
+use Rattle.derivation_search.specs.Searched.{Searched, Searches}
+use Rattle.derivation_writer.specs.WritesDerivation.{writable, Writes}
+use Rattle.derivation_writer.specs.WritesDerivation.Writes.{refuses, no, steps}
+use Rattle.derivation_writer.specs.Tracing.{Ready, Traced}
+use Rattle.derivation_writer.specs.declared.Derivation.the-variants.{Steps, None, Refused}
+use Rattle.derivation_writer.specs.declared.Derivation.{Derivation}
+
+-- the role of a question that is one to answer
+pub asked-role : (s : List ℕ) (r : ℕ) (w : Chain) (b : Book) → asked-book s r w ≡ ok b → r < 128
+unfolding asked-book
+asked-role s r w b h = by-book (ordered s) refl h
+  where
+    by-question : (c : Book) → ordered s ≡ ok c → (q : Result (Unit {0})) → question (c .names) r w ≡ q
+        → and-then q (λ _. demand (leb (length w) 16) 15 0 (ok c)) ≡ ok b → r < 128
+    by-question c o (refused x y) e g = absurd (refused-ok x y b g)
+    by-question c o (ok z) e g =
+        let all : named (c .names) (r ∷ w) ≡ true = demand-test (named (c .names) (r ∷ w)) 14 0 (ok tt) z (demand-rest (chain-fits w) 13 0 (demand (named (c .names) (r ∷ w)) 14 0 (ok tt)) z e) in
+        omega (arith, named-link (c .names) (r ∷ w) all 0 (omega arith), read-few-names s c (ordered-read s c o))
+
+    by-book : (o : Result Book) → ordered s ≡ o → and-then o (λ c. short-question c r w) ≡ ok b → r < 128
+    by-book (refused x y) e g = absurd (refused-ok x y b g)
+    by-book (ok c) e g = by-question c e (question (c .names) r w) refl g
+
+-- what a search finds, for a writer
+abbrev pub searched-ready : {ρs : List Rule} {w : Chain} {table chart : List ℕ} → Searched ρs w table chart → Ready table w chart
+searched-ready {ρs} q = record { count = length ρs; rules = q .tabled .rules; charted = q .charted }
+
+searched-derivation : {ρs : List Rule} {w : Chain} {table chart : List ℕ} (q : Searched ρs w table chart) (r : ℕ) (v : List ℕ)
+    → checked (length ρs) (rule-in table) r w v ≡ ok true → derivation ρs r w v ≡ ok true
+unfolding derivation
+searched-derivation {ρs} {w} {table} q r v h = sym (checked-agree (length ρs) (rule-in table) (completed ρs) (q .tabled .same) r w v) ∙ h
+
+-- for a book that is asked
+abbrev pub Gives : Book → ℕ → Chain → List ℕ → List ℕ → Derivation → Type 0
+Gives b r w old new d = Writes (demand (leb 16384 (length old)) 16 0 (ok b)) r w old new d
+
+module _ (b : Book) (r : ℕ) (w : Chain) (old : List ℕ) where
+  pub gives-buffer : length old < 16384 → Gives b r w old old (Refused Buffer)
+  gives-buffer h = refuses Buffer (rw (lt-leb 16384 (length old) h) refl)
+
+  module _ (room : 16384 ≤ length old) {table chart : List ℕ} (q : Searched (b .rules) w table chart) where
+    lent : demand (leb 16384 (length old)) 16 0 (ok b) ≡ ok b
+    lent = rw (le-leb 16384 (length old) room) refl
+
+    pub gives-none : has (ends-of chart 0 r) (length w) ≡ false → Gives b r w old old None
+    gives-none h = no b lent (λ d. true≢false (sym (q .complete r d) ∙ h))
+
+    pub gives-steps : {new : List ℕ} {n : ℕ} → Traced (searched-ready q) r old new n → Gives b r w old new (Steps n)
+    gives-steps {new} {n} t =
+        subst (λ (l : List ℕ). Gives b r w old l (Steps n)) (sym whole) (steps b lent (take (4 * n) new) n front (t .few) derived)
+      where
+        front : length (take (4 * n) new) ≡ 4 * n
+        front = length-take-le (4 * n) new (omega (arith, t .few, t .size))
+
+        behind : drop (4 * n) new ≡ drop (4 * n) old
+        behind =
+            ext-getD 0 (drop (4 * n) new) (drop (4 * n) old) (simp length-drop (omega (arith, t .size)))
+            (λ x h. getD-drop (4 * n) new x 0 ∙ (t .kept (4 * n + x) (omega arith) ∙ sym (getD-drop (4 * n) old x 0)))
+
+        whole : new ≡ over (take (4 * n) new) old
+        whole = sym (take-append-drop (4 * n) new) ∙ ap (λ (l : List ℕ). take (4 * n) new ++ l) (behind ∙ ap (λ (k : ℕ). drop k old) (sym front))
+
+        derived : derivation (b .rules) r w (take (4 * n) new) ≡ ok true
+        derived =
+            searched-derivation q r (take (4 * n) new)
+            (checked-steps (length (b .rules)) (rule-in table) r w (take (4 * n) new) n front (leads-front (length (b .rules)) (rule-in table) new n (r ∷ []) ∙ t .led))
+
+-- by what a search finds
+writable-from : (s : List ℕ) (r : ℕ) (w : Chain) (lent : ℕ) (x : Result Book) → asked-book s r w ≡ x
+    → writable lent s r w ≡ and-then x (λ b. demand (leb 16384 lent) 16 0 (ok b))
+unfolding writable
+writable-from s r w lent x e = ap (λ (y : Result Book). and-then y (λ b. demand (leb 16384 lent) 16 0 (ok b))) e
+
+module _ {s : List ℕ} {r : ℕ} {w : Chain} {table table′ chart chart′ : List ℕ} {a : Admission} (q : Searches s r w table table′ chart chart′ a) where
+  pub writes-refused : {refusal : BookQueryRefusal} → a ≡ Refused-admission refusal → (old : List ℕ)
+      → Writes (writable (length old) s r w) r w old old (Refused refusal)
+  writes-refused {refusal} e old =
+      refuses refusal
+      (writable-from s r w (length old) _ (map-refused (λ b. length (b .rules)) (asked-book s r w) (ap says (sym e) ∙ q .answer)))
+
+  module _ {rules : ℕ} (e : a ≡ Admitted rules) (t : length table ≡ 8192) (l : length chart ≡ 37008) where
+    asked : (b : Book) × (asked-book s r w ≡ ok b) × (rules ≡ length (b .rules))
+    asked = map-ok (λ b. length (b .rules)) (asked-book s r w) (ap says (sym e) ∙ q .answer)
+
+    pub some-searched : (ρs : List Rule) × Searched ρs w table′ chart′
+    some-searched = (asked .0 .rules, q .searched (asked .0) (asked .1) t l)
+
+    pub role-named : r < 128
+    role-named = asked-role s r w (asked .0) (asked .1)
+
+    pub writes-given : (old : List ℕ) {new : List ℕ} {d : Derivation} → ((b : Book) → Searched (b .rules) w table′ chart′ → Gives b r w old new d)
+        → Writes (writable (length old) s r w) r w old new d
+    writes-given old {new} {d} g =
+        subst (λ (c : Result Book). Writes c r w old new d) (sym (writable-from s r w (length old) _ (asked .1)))
+        (g (asked .0) (q .searched (asked .0) (asked .1) t l))

@@ -1,0 +1,105 @@
+// A role gives way to the left side of its rule: the rule, the step that is written, and the parts of the left roles.
+ghost use mathlib.Core.Path.{_≡_};
+ghost use Prim.Native.Nat.{ℕ, _+_, _*_, _/_, _%_, _<_, _≤_};
+ghost use lib.ListN.{length, getD, drop};
+ghost use Rattle.base.specs.Reflects.{Reflects};
+ghost use Rattle.derivation_charts.specs.Chart.{Found, Splits, by};
+ghost use Rattle.book_questions.specs.RuleTable.{rule-in};
+ghost use Rattle.derivation_writer.specs.Division.{StepPut, CutAt, Divided};
+use derivation_charts::ends;
+use derivation_charts::reach;
+use name_sets::has;
+use name_sets::single;
+
+// Writes step `at`: at a place, by the completed rule q.
+pub(crate) fn put(steps: &mut [u8], at: usize, place: usize, q: usize)
+    requires { ⌜ (4 * at + 3 < length (now steps)) × (place < 256) × (q < 512) ⌝ }
+    ensures { λ _. ⌜ StepPut (now (steps .entry)) at place q (now (steps .exit)) ⌝ }
+{
+    steps[4 * at] = place as u8;
+    steps[4 * at + 1] = 0;
+    steps[4 * at + 2] = (q / 2) as u8;
+    steps[4 * at + 3] = (q % 2) as u8;
+}
+
+// Whether the part from link i to `end` is one link, and that link the role.
+pub(crate) fn stands(chain: &[u8], i: usize, end: usize, role: u8) -> bool
+    requires { ⌜ (i < end) × (end ≤ length (now chain)) ⌝ }
+    ensures { λ r. ⌜ Reflects r ((end ≡ i + 1) × (getD (now (chain .entry)) i 0 ≡ role)) ⌝ }
+{
+    if end - i != 1 {
+        return false;
+    }
+    chain[i] == role
+}
+
+// The completed rule that a role was found by for a part.
+pub(crate) fn rule_by(chart: &[u16], i: usize, end: usize, role: u8) -> usize
+    requires { ⌜ (length (now chart) ≡ 37008) × (i < end) × (end ≤ 16) × (role < 128) ⌝ }
+    ensures { λ r. ⌜ r ≡ by (now (chart .entry)) i end role ⌝ }
+{
+    chart[2176 + 128 * (16 * i + (end - 1)) + role as usize] as usize
+}
+
+// The left side of the completed rule q.
+pub(crate) fn left_of(table: &[u8], q: usize) -> &[u8]
+    requires { ⌜ (q < 512) × (length (now table) ≡ 8192) × (getD (now table) (16 * q + 1) 0 ≤ 8) ⌝ }
+    ensures { λ r. ⌜ now r ≡ rule-in (now (table .entry)) (q / 2) (q % 2) .left ⌝ }
+{
+    let start = 16 * q + 2;
+    let end = start + table[16 * q + 1] as usize;
+    &table[start..end]
+}
+
+// A role still to derive, with the end of its part.
+pub(crate) fn pair(role: u8, end: usize) -> u16
+    requires { ⌜ end < 64 ⌝ }
+    ensures { λ r. ⌜ r ≡ 128 * end + role ⌝ }
+{
+    (128 * end + role as usize) as u16
+}
+
+// Puts the roles of a left side that spells the part from a link to `end`, each with its end, in the place of the pending role at the top. Returns the
+// new top.
+pub(crate) fn divide(
+    chart: &[u16],
+    left: &[u8],
+    from: usize,
+    end: usize,
+    pending: &mut [u16],
+    top: usize,
+) -> usize
+    requires { ⌜ (length (now left) ≤ top + 1) × (top < length (now pending)) × (end < 64) ⌝ }
+    requires { ⌜ ((k : ℕ) → k < length (now left) → getD (now left) k 0 < 128) ⌝ }
+    requires { ⌜ Splits (Found (now chart)) (now left) from end ⌝ }
+    ensures { λ r. ⌜ Divided (now (chart .entry)) (now (left .entry)) from end (now (pending .entry)) top (now (pending .exit)) r ⌝ }
+{
+    let first = top + 1 - left.len();
+    let mut i = from;
+    let mut t = 0;
+    while t < left.len() {
+        let next = cut(chart, left, t, i, end);
+        pending[first + t] = pair(left[t], next);
+        i = next;
+        t += 1;
+    }
+    first
+}
+
+// Where the t-th role of a left side can end, of the part from link i to `end` that it spells with those behind it.
+fn cut(chart: &[u16], left: &[u8], t: usize, i: usize, end: usize) -> usize
+    requires { ⌜ (t < length (now left)) × (end < 64) ⌝ }
+    requires { ⌜ Splits (Found (now chart)) (drop t (now left)) i end ⌝ }
+    ensures { λ r. ⌜ CutAt (now (chart .entry)) (now (left .entry)) t i end r ⌝ }
+{
+    let after = t + 1;
+    let mut rest = ends(chart, i, left[t]);
+    while rest != 0 {
+        let m = u64::trailing_zeros(rest) as usize;
+        if has(reach(chart, &left[after..], m), end) {
+            return m;
+        }
+        rest = rest ^ single(m);
+    }
+    end
+}
