@@ -1,6 +1,7 @@
 -- `give` meets its contract.
 use mathlib.Core.Path.{_≡_, ap, _∙_}
 use Prim.Native.Nat.{ℕ}
+use native.Mathlib.Omega.{arith}
 use borrow.Author.Needs.{needs}
 use lib.ListN.{length}
 use Rattle.base.specs.Reflects.{test-failed, test-passed}
@@ -11,14 +12,15 @@ use Rattle.derivation_writer.proofs.give.Statement.{statement}
 use Rattle.derivation_writer.proofs.give.Tie as tie
 
 returns : tie.Need-returns
-returns c b q = gives-buffer b _ _ _ (c .if1 .taken)
+returns c b q = gives-buffer b _ _ (c .before .before .before .before .before .args .steps .now) (omega (arith, c .if1 .taken))
 
 -- whether the role is found for the whole chain
 tells : (c : tie.After-has) → c .has .result ≡ has (ends-of (c .before .before .before .before .before .before .before .args .chart .now) 0 (c .before .before .before .before .before .before .before .args .role)) (length (c .before .before .before .before .before .before .before .args .chain .now))
 tells c = c .has .ensures ∙ ap (λ (m : ℕ). has m (length (c .before .before .before .before .before .before .before .args .chain .now))) (c .before .ends .ensures)
 
 returns-2 : tie.Need-returns-2
-returns-2 c b q = gives-none b _ _ _ (c .before .before .before .if1 .left) q (test-failed _ _ (tells (c .before)) (c .if2 .taken))
+returns-2 c b q =
+    gives-none b _ _ (c .before .before .before .before .before .before .before .before .args .steps .now) (omega (arith, c .before .before .before .if1 .left)) q (test-failed _ _ (tells (c .before)) (c .if2 .taken))
 
 trace-requires : tie.Need-trace-requires
 trace-requires c κs =
