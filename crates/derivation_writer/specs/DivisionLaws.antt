@@ -22,6 +22,7 @@ use Rattle.roles.specs.Role.{Chain}
 use Rattle.derivation_steps.specs.WrittenSteps.{step-at}
 use Rattle.derivation_charts.specs.Chart.{ends-of, Found, Splits}
 use Rattle.derivation_charts.specs.Chart.Splits.{none, more}
+use Rattle.derivation_charts.specs.SplitsLaws.{splits-one}
 use Rattle.book_questions.specs.RuleTable.{entry, rule-in}
 use Rattle.book_questions.specs.RuleTableLaws.{slice-left}
 use Rattle.derivation_writer.specs.Pending.{end-of, role-of, roles-of, Tiles}
@@ -96,6 +97,18 @@ module _ {chart : List ℕ} {left : Chain} {t i j : ℕ} where
     where
       first : Splits (Found chart) (getD left t 0 ∷ drop (suc t) left) i j → Cutting chart left t i j (ends-of chart i (getD left t 0))
       first (more m f q) = record { fits = fits; found = λ m h. h; place = m; member = f; behind = rw add-one q }
+
+  -- the last role ends where the part does
+  pub cut-last : t + 1 ≡ length left → j < 64 → Splits (Found chart) (drop t left) i j → CutAt chart left t i j j
+  cut-last h l s =
+      record {
+        near = l;
+        found = splits-one (subst (λ (v : Chain). Splits (Found chart) v i j) (drop-cons left t 0 (omega arith) ∙ ap (λ (v : Chain). getD left t 0 ∷ v) past) s);
+        behind = subst (λ (v : Chain). Splits (Found chart) v j j) (sym (ap (λ (k : ℕ). drop k left) (add-one t) ∙ past)) none;
+      }
+    where
+      past : drop (suc t) left ≡ []
+      past = drop-of-length-le left {i = suc t} (omega arith)
 
   module _ {rest : ℕ} (c : Cutting chart left t i j rest) where
     pub cut-found : (m : ℕ) → m < 64 → has rest m ≡ true → Splits (Found chart) (drop (t + 1) left) m j → CutAt chart left t i j m

@@ -19,9 +19,13 @@ use Rattle.book_questions.specs.ShortQuestion.{asked-book}
 use Rattle.derivation_writer.specs.declared.Derivation.{Derivation}
 use Rattle.derivation_writer.specs.declared.Derivation.the-variants.{Steps, None, Refused}
 
--- causes 1 to 8 and 13 to 15, then 16 where fewer than 16,384 bytes are lent: the book that is asked
+-- cause 16 for a book that is asked, where fewer than 16,384 bytes are lent
+abbrev pub lent-enough : (lent : ℕ) → Book → Result Book
+lent-enough lent b = demand (leb 16384 lent) 16 0 (ok b)
+
+-- causes 1 to 8 and 13 to 15, then 16: the book that is asked
 unfoldable pub writable : (lent : ℕ) → List ℕ → ℕ → Chain → Result Book
-writable lent s r w = and-then (asked-book s r w) (λ b. demand (leb 16384 lent) 16 0 (ok b))
+writable lent s r w = and-then (asked-book s r w) (lent-enough lent)
 
 -- from the lent bytes to those left and the answer
 pub data Writes (checks : Result Book) (r : ℕ) (w : Chain) (old : List ℕ) : List ℕ → Derivation → Type 0 where
@@ -30,3 +34,7 @@ pub data Writes (checks : Result Book) (r : ℕ) (w : Chain) (old : List ℕ) : 
   no : (b : Book) → checks ≡ ok b → (Derives (b .rules) r w → ⊥) → Writes checks r w old old None
   steps : (b : Book) → checks ≡ ok b → (s : List ℕ) (n : ℕ) → length s ≡ 4 * n → n ≤ 4096 → derivation (b .rules) r w s ≡ ok true
       → Writes checks r w old (over s old) (Steps n)
+
+-- what is left to promise for a book that is asked
+abbrev pub Gives : Book → ℕ → Chain → List ℕ → List ℕ → Derivation → Type 0
+Gives b r w old = Writes (lent-enough (length old) b) r w old

@@ -33,7 +33,7 @@ use Rattle.book_questions.specs.declared.Admission.{Admission}
 use Rattle.book_questions.specs.declared.Admission.the-variants.{Admitted, Refused as Refused-admission}
 use Rattle.book_questions.specs.Admission.{says}
 use Rattle.derivation_search.specs.Searched.{Searched, Searches}
-use Rattle.derivation_writer.specs.WritesDerivation.{writable, Writes}
+use Rattle.derivation_writer.specs.WritesDerivation.{lent-enough, writable, Writes, Gives}
 use Rattle.derivation_writer.specs.WritesDerivation.Writes.{refuses, no, steps}
 use Rattle.derivation_writer.specs.Tracing.{Ready, Traced}
 use Rattle.derivation_writer.specs.declared.Derivation.the-variants.{Steps, None, Refused}
@@ -65,15 +65,12 @@ unfolding derivation
 searched-derivation {ρs} {w} {table} q r v h = sym (checked-agree (length ρs) (rule-in table) (completed ρs) (q .tabled .same) r w v) ∙ h
 
 -- for a book that is asked
-abbrev pub Gives : Book → ℕ → Chain → List ℕ → List ℕ → Derivation → Type 0
-Gives b r w old new d = Writes (demand (leb 16384 (length old)) 16 0 (ok b)) r w old new d
-
 module _ (b : Book) (r : ℕ) (w : Chain) (old : List ℕ) where
   pub gives-buffer : length old < 16384 → Gives b r w old old (Refused Buffer)
   gives-buffer h = refuses Buffer (rw (lt-leb 16384 (length old) h) refl)
 
   module _ (room : 16384 ≤ length old) {table chart : List ℕ} (q : Searched (b .rules) w table chart) where
-    lent : demand (leb 16384 (length old)) 16 0 (ok b) ≡ ok b
+    lent : lent-enough (length old) b ≡ ok b
     lent = rw (le-leb 16384 (length old) room) refl
 
     pub gives-none : has (ends-of chart 0 r) (length w) ≡ false → Gives b r w old old None
@@ -101,9 +98,9 @@ module _ (b : Book) (r : ℕ) (w : Chain) (old : List ℕ) where
 
 -- by what a search finds
 writable-from : (s : List ℕ) (r : ℕ) (w : Chain) (lent : ℕ) (x : Result Book) → asked-book s r w ≡ x
-    → writable lent s r w ≡ and-then x (λ b. demand (leb 16384 lent) 16 0 (ok b))
+    → writable lent s r w ≡ and-then x (lent-enough lent)
 unfolding writable
-writable-from s r w lent x e = ap (λ (y : Result Book). and-then y (λ b. demand (leb 16384 lent) 16 0 (ok b))) e
+writable-from s r w lent x e = ap (λ (y : Result Book). and-then y (lent-enough lent)) e
 
 module _ {s : List ℕ} {r : ℕ} {w : Chain} {table table′ chart chart′ : List ℕ} {a : Admission} (q : Searches s r w table table′ chart chart′ a) where
   pub writes-refused : {refusal : BookQueryRefusal} → a ≡ Refused-admission refusal → (old : List ℕ)

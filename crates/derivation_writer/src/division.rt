@@ -93,6 +93,9 @@ fn cut(chart: &[u16], left: &[u8], t: usize, i: usize, end: usize) -> usize
     ensures { λ r. ⌜ CutAt (now (chart .entry)) (now (left .entry)) t i end r ⌝ }
 {
     let after = t + 1;
+    if after == left.len() {
+        return end;
+    }
     let mut rest = ends(chart, i, left[t]);
     while rest != 0 {
         let m = u64::trailing_zeros(rest) as usize;

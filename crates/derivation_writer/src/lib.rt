@@ -1,10 +1,9 @@
 // Writes a derivation out: the steps from a role to a chain, from a chart of the roles that derive its parts.
 ghost use mathlib.Core.List.{List};
 ghost use Prim.Native.Nat.{_<_};
-ghost use lib.ListN.{length};
 ghost use Rattle.roles.specs.Rule.{Rule, Book};
 ghost use Rattle.derivation_search.specs.Searched.{Searched};
-ghost use Rattle.derivation_writer.specs.WritesLaws.{Gives};
+ghost use Rattle.derivation_writer.specs.WritesDerivation.{Gives};
 
 mod division;
 mod trace;

@@ -12,7 +12,7 @@ use Rattle.name_sets.specs.Mask.{has, count}
 use Rattle.name_sets.specs.MemberLaws.{lowest, only-named, without-fewer}
 use Rattle.derivation_charts.specs.Chart.{Found, Splits}
 use Rattle.derivation_writer.specs.Division.{Cutting}
-use Rattle.derivation_writer.specs.DivisionLaws.{cutting-start, cutting-next, cutting-end, cut-found, read-behind}
+use Rattle.derivation_writer.specs.DivisionLaws.{cut-last, cutting-start, cutting-next, cutting-end, cut-found, read-behind}
 use Rattle.derivation_writer.proofs.division.cut.Statement.{statement}
 use Rattle.derivation_writer.proofs.division.cut.Tie as tie
 
@@ -22,9 +22,12 @@ Inv-loop chart left t i end after rest₀ rest = Cutting chart left t i end rest
 abbrev μ-loop : tie.MeasureT-loop
 μ-loop chart left t i end after rest₀ rest = count 64 (has rest)
 
+returns : tie.Need-returns Inv-loop μ-loop
+returns c = let entry = c .before .before .before in cut-last (c .if1 .taken) (entry .pre .0 .1) (entry .pre .1)
+
 loop-holds : tie.Need-loop-holds Inv-loop μ-loop
 loop-holds c =
-    let entry = c .before .before .before .before in
+    let entry = c .before .before .before .before .before in
     rw (c .ends .ensures) (cutting-start (entry .pre .0 .0) (rw (← c .ends .ensures) (c .ends .ok)) (entry .pre .1))
 
 -- the lowest place left
@@ -32,16 +35,16 @@ low : (c : tie.In-loop Inv-loop μ-loop) → (trailingZeros 64 (c .before .loop 
 low c = lowest 64 (c .before .loop .rest) (let h = c .loop-test .taken in omega arith) (c .before .loop .inv .fits)
 
 -- what is reached from there tells whether the roles behind go on to the end
-tells : (c : tie.After-has Inv-loop μ-loop) → Reflects (c .has .result) (Splits (Found (c .before .before .before .before .before .before .before .before .before .args .chart .now)) (drop (c .before .before .before .before .before .before .before .before .before .args .t + 1) (c .before .before .before .before .before .before .before .before .before .args .left .now)) (trailingZeros 64 (c .before .before .before .before .loop .rest)) (c .before .before .before .before .before .before .before .before .before .args .end))
+tells : (c : tie.After-has Inv-loop μ-loop) → Reflects (c .has .result) (Splits (Found (c .before .before .before .before .before .before .before .before .before .before .args .chart .now)) (drop (c .before .before .before .before .before .before .before .before .before .before .args .t + 1) (c .before .before .before .before .before .before .before .before .before .before .args .left .now)) (trailingZeros 64 (c .before .before .before .before .loop .rest)) (c .before .before .before .before .before .before .before .before .before .before .args .end))
 tells c =
-    let entry = c .before .before .before .before .before .before .before .before .before in
+    let entry = c .before .before .before .before .before .before .before .before .before .before in
     subst (λ (v : List ℕ). Reflects (c .has .result) (Splits (Found (entry .args .chart .now)) v (trailingZeros 64 (c .before .before .before .before .loop .rest)) (entry .args .end))) (read-behind (entry .args .left .now) (entry .args .t + 1))
     (rw (c .has .ensures) (c .before .reach .ensures (entry .args .end) (entry .pre .0 .1)))
 
-returns : tie.Need-returns Inv-loop μ-loop
-returns c =
+returns-2 : tie.Need-returns-2 Inv-loop μ-loop
+returns-2 c =
     let turn = c .before .before .before .before in
-    cut-found (turn .before .loop .inv) _ (low turn .0) (low turn .1) (tells (c .before) .holds (c .if1 .taken))
+    cut-found (turn .before .loop .inv) _ (low turn .0) (low turn .1) (tells (c .before) .holds (c .if2 .taken))
 
 loop-less : tie.Need-loop-less Inv-loop μ-loop
 loop-less c =
@@ -51,10 +54,10 @@ loop-less c =
 loop-again : tie.Need-loop-again Inv-loop μ-loop
 loop-again c =
     let turn = c .before .before .before .before .before in
-    rw (c .single .ensures, only-named _ (low turn .0)) (cutting-next (turn .before .loop .inv) _ (low turn .0) (low turn .1) (tells (c .before .before) .fails (c .before .if1 .left)))
+    rw (c .single .ensures, only-named _ (low turn .0)) (cutting-next (turn .before .loop .inv) _ (low turn .0) (low turn .1) (tells (c .before .before) .fails (c .before .if2 .left)))
 
-returns-2 : tie.Need-returns-2 Inv-loop μ-loop
-returns-2 c = absurd (cutting-end (c .before .loop .inv) (c .loop-test .left))
+returns-3 : tie.Need-returns-3 Inv-loop μ-loop
+returns-3 c = absurd (cutting-end (c .before .loop .inv) (c .loop-test .left))
 
 pub cut-spec : {M : Type 1} → statement M
 cut-spec =
@@ -63,6 +66,7 @@ cut-spec =
     Inv-loop
     μ-loop
     (λ c. search needs)
+    returns
     (λ c. search needs)
     (λ c κs. search needs)
     loop-holds
@@ -72,8 +76,8 @@ cut-spec =
     (λ c. search needs)
     (λ c κs. search needs)
     (λ c κs. search needs)
-    returns
+    returns-2
     (λ c κs. search needs)
     loop-less
     loop-again
-    returns-2)
+    returns-3)
