@@ -22,7 +22,8 @@ struct Place {
 pub(crate) fn trace(table: &[u8], chain: &[u8], chart: &[u16], role: u8, steps: &mut [u8]) -> usize
     requires { ⌜ Ready (now table) (now chain) (now chart) ⌝ }
     requires { ⌜ (role < 128) × Found (now chart) 0 (length (now chain)) role × (16384 ≤ length (now steps)) ⌝ }
-    ensures { λ r. ⌜ ((ready : Ready (now (table .entry)) (now (chain .entry)) (now (chart .entry))) → Traced ready role (now (steps .entry)) (now (steps .exit)) r) ⌝ }
+    ensures { λ r. ⌜ ((ready : Ready (now (table .entry)) (now (chain .entry)) (now (chart .entry)))
+        → Traced ready role (now (steps .entry)) (now (steps .exit)) r) ⌝ }
 {
     let mut pending = [0u16; 16];
     walk(table, chain, chart, role, &mut pending, steps)
@@ -39,7 +40,8 @@ fn walk(
 ) -> usize
     requires { ⌜ Ready (now table) (now chain) (now chart) ⌝ }
     requires { ⌜ (role < 128) × Found (now chart) 0 (length (now chain)) role × (16384 ≤ length (now steps)) × (length (now pending) ≡ 16) ⌝ }
-    ensures { λ r. ⌜ ((ready : Ready (now (table .entry)) (now (chain .entry)) (now (chart .entry))) → Traced ready role (now (steps .entry)) (now (steps .exit)) r) ⌝ }
+    ensures { λ r. ⌜ ((ready : Ready (now (table .entry)) (now (chain .entry)) (now (chart .entry)))
+        → Traced ready role (now (steps .entry)) (now (steps .exit)) r) ⌝ }
 {
     pending[15] = pair(role, chain.len());
     let mut place = Place {

@@ -6,9 +6,11 @@ use Rattle.derivation_writer.specs.TracingLaws.{First, first, first-insi
 use Rattle.derivation_writer.proofs.trace.turn.Statement.{statement}
 use Rattle.derivation_writer.proofs.trace.turn.Tie as tie
 
+-- the first pending role
 top-first : (c : tie.Start) → First (c .args .chain .now) (c .args .chart .now) (c .args .pending .now) (c .args .place)
 top-first c = first (c .pre .1 .1) (c .pre .1 .0)
 
+-- the rule that it was found by, where it is no link itself
 by-rule : (c : tie.After-rule-by) → Given (c .before .before .before .before .before .before .before .before .before .pre .0) (top-first (c .before .before .before .before .before .before .before .before .before)) (c .rule-by .result)
 by-rule c =
     let entry = c .before .before .before .before .before .before .before .before .before in
@@ -44,23 +46,29 @@ put-requires c κs =
     (omega (arith, entry .pre .1 .2, entry .pre .1 .3), omega (arith, inside .0, inside .1, entry .pre .0 .charted .short), by-rule (c .before) .small)
 
 left-of-requires : tie.Need-left-of-requires
-left-of-requires c κs = let g = by-rule (c .before .before .before .before) in (g .small, c .before .before .before .before .before .before .before .before .before .before .before .before .before .pre .0 .rules .size, g .links)
+left-of-requires c κs =
+    let at-rule-by = c .before .before .before .before in
+    let g = by-rule at-rule-by in
+    (g .small, at-rule-by .before .before .before .before .before .before .before .before .before .pre .0 .rules .size, g .links)
 
 divide-requires : tie.Need-divide-requires
 divide-requires c κs =
-    let entry = c .before .before .before .before .before .before .before .before .before .before .before .before .before .before .before in
-    let g = by-rule (c .before .before .before .before .before .before) in
+    let at-rule-by = c .before .before .before .before .before .before in
+    let entry = at-rule-by .before .before .before .before .before .before .before .before .before in
+    let g = by-rule at-rule-by in
     rw (c .before .left-of .ensures)
     ((g .room, omega (arith, entry .pre .1 .1, entry .pre .1 .0 .size), omega (arith, first-inside (entry .pre .0) (top-first entry) .1, entry .pre .0 .charted .short)), (g .named, g .splits))
 
 add-t15 : tie.Need-add-t15
-add-t15 c = omega (arith, c .before .before .before .before .before .before .before .before .before .before .before .before .before .before .before .before .before .before .pre .1 .2)
+add-t15 c = let at-rule-by = c .before .before .before .before .before .before .before .before .before in omega (arith, at-rule-by .before .before .before .before .before .before .before .before .before .pre .1 .2)
 
 returns-2 : tie.Need-returns-2
 returns-2 c =
-    let given = c .before .before .before .before .before .before .before .before .before in
-    turned-rule (top-first (c .before .before .before .before .before .before .before .before .before .before .before .before .before .before .before .before .before .before)) _ (given .rule-by .ensures) (given .before .before .stands .ensures .fails (given .before .if1 .left))
-    (c .before .before .before .before .left-of .ensures) (c .before .before .before .before .before .before .before .put .ensures) (c .before .before .divide .ensures)
+    let at-put = c .before .before .before .before .before .before .before in
+    let at-rule-by = at-put .before .before in
+    let at-stands = at-rule-by .before .before in
+    turned-rule (top-first (at-stands .before .before .before .before .before .before .before)) _ (at-rule-by .rule-by .ensures) (at-stands .stands .ensures .fails (at-rule-by .before .if1 .left))
+    (c .before .before .before .before .left-of .ensures) (at-put .put .ensures) (c .before .before .divide .ensures)
 
 pub turn-spec : {M : Type 1} → statement M
 turn-spec =

@@ -29,19 +29,28 @@ loop-holds c ready =
 
 turn-requires : tie.Need-turn-requires Inv-loop μ-loop
 turn-requires c κs =
-    let a = c .before .before .before .before .loop .inv (c .before .before .before .before .before .before .before .before .before .before .before .pre .0) in
-    (c .before .before .before .before .before .before .before .before .before .before .before .pre .0, (a .pends, c .before .before .if1 .taken, omega (arith, a .bound), omega (arith, a .size, c .before .before .before .before .before .before .before .before .before .before .before .pre .1 .2)))
+    let at-loop = c .before .before .before .before in
+    let pre = at-loop .before .before .before .before .before .before .before .pre in
+    let a = at-loop .loop .inv (pre .0) in
+    (pre .0, (a .pends, c .before .before .if1 .taken, omega (arith, a .bound), omega (arith, a .size, pre .1 .2)))
 
 loop-less : tie.Need-loop-less Inv-loop μ-loop
 loop-less c =
-    let a = c .before .before .before .before .before .before .before .before .before .loop .inv (c .before .before .before .before .before .before .before .before .before .before .before .before .before .before .before .before .pre .0) in
-    omega (arith, c .before .before .before .before .turn .ensures .onward, tracing-near (c .before .before .before .before .before .before .before .before .before .before .before .before .before .before .before .before .pre .0) _ _ (first (c .before .before .before .before .before .before .before .if1 .taken) (a .pends)) a)
+    let at-turn = c .before .before .before .before in
+    let at-loop = at-turn .before .before .before .before .before in
+    let pre = at-loop .before .before .before .before .before .before .before .pre in
+    let a = at-loop .loop .inv (pre .0) in
+    omega (arith, at-turn .turn .ensures .onward, tracing-near (pre .0) _ _ (first (at-turn .before .before .before .if1 .taken) (a .pends)) a)
 
 loop-again : tie.Need-loop-again Inv-loop μ-loop
-loop-again c ready = c .before .before .before .before .turn .ensures .tracing ready _ _ (c .before .before .before .before .before .before .before .before .before .loop .inv ready)
+loop-again c ready =
+    let at-turn = c .before .before .before .before in
+    at-turn .turn .ensures .tracing ready _ _ (at-turn .before .before .before .before .before .loop .inv ready)
 
 same-length : tie.Need-same-length Inv-loop μ-loop
-same-length c = let entry = c .before .before .before .before .before .before .before .before .before in c .before .before .loop .inv (entry .pre .0) .pends .size ∙ sym (entry .pre .1 .3)
+same-length c =
+    let entry = c .before .before .before .before .before .before .before .before .before in
+    c .before .before .loop .inv (entry .pre .0) .pends .size ∙ sym (entry .pre .1 .3)
 
 same-length-2 : tie.Need-same-length-2 Inv-loop μ-loop
 same-length-2 c = c .before .before .loop .inv (c .before .before .before .before .before .before .before .before .before .pre .0) .size
