@@ -6,6 +6,9 @@ use Rattle.base.specs.Result.{Result}
 use Rattle.base.specs.Result.Result.{refused, ok}
 use Rattle.book_header.specs.declared.Header.{Header}
 use Rattle.table_limits.specs.declared.Counts.{Counts}
+use Rattle.refusals.specs.BookQueryRefusals.{book-query-cause, book-query-value}
+use Rattle.derivation_writer.specs.declared.Derivation.{Derivation}
+use Rattle.derivation_writer.specs.declared.Derivation.the-variants.{Steps, None, Refused}
 
 -- three numbers told
 pub record Numbers : Type 0 where
@@ -48,3 +51,9 @@ built-counts k = record { one = k .states; two = k .transitions; three = k .dept
 abbrev pub bit : Bool → Numbers
 bit true = record { one = 1; two = 0; three = 0 }
 bit false = record { one = 0; two = 0; three = 0 }
+
+-- a derivation that is written is 1 with its steps; none is 0
+abbrev pub derivation-numbers : Derivation → Result Numbers
+derivation-numbers (Steps count) = ok (record { one = 1; two = count; three = 0 })
+derivation-numbers None = ok (record { one = 0; two = 0; three = 0 })
+derivation-numbers (Refused refusal) = refused (book-query-cause refusal) (book-query-value refusal)

@@ -11,7 +11,9 @@ use Rattle.book_causes.specs.Ordered.{ordered}
 use Rattle.book_causes.specs.Accepted.{states-of, count-of, levels-of, depth-of, heads-of, moves-of, built, written}
 use Rattle.query_causes.specs.Query.{Answered}
 use Rattle.query_correctness.specs.Reply.{Replied, posed}
-use Rattle.call_numbers.specs.Tells.{Numbers, Tells, bit}
+use Rattle.derivation_writer.specs.declared.Derivation.{Derivation}
+use Rattle.derivation_writer.specs.WritesDerivation.{writable, Writes}
+use Rattle.call_numbers.specs.Tells.{Numbers, Tells, bit, derivation-numbers}
 
 -- how many names and rules, and the depth
 abbrev pub book-counts : Book → Numbers
@@ -48,3 +50,9 @@ pub record TellsDerived (s h m : List ℕ) (r : ℕ) (w : Chain) (h′ m′ : Li
   pub tells : Tells (map-result bit said) cause answer 0 0
   pub heads : h′ ≡ written (posed s (length h) (length m) r w) heads-of h
   pub moves : m′ ≡ written (posed s (length h) (length m) r w) moves-of m
+
+-- a derivation that is asked for, and the lent bytes
+pub record TellsDerivation (s : List ℕ) (r : ℕ) (w : Chain) (old new : List ℕ) (cause first second : ℕ) : Type 0 where
+  pub said : Derivation
+  pub writes : Writes (writable (length old) s r w) r w old new said
+  pub tells : Tells (derivation-numbers said) cause first second 0

@@ -31,8 +31,13 @@ use Rattle.table_limits.specs.declared.Outcome.{Outcome}
 use Rattle.table_builder.specs.Builds as builder
 use Rattle.query_deriver.specs.declared.Reply.{Reply}
 use Rattle.query_deriver.specs.Replies as replies
-use Rattle.call_numbers.specs.Tells.{Numbers, Tells, header-counts, built-counts, bit}
-use Rattle.rabbitsteel.specs.Calls.{book-counts, TellsOrder, TellsBuild, TellsAnswer, TellsDerived}
+use Rattle.book_questions.specs.declared.BookAnswer.{BookAnswer}
+use Rattle.book_questions.specs.Admission.{answers}
+use Rattle.derivation_writer.specs.declared.Derivation.{Derivation}
+use Rattle.derivation_writer.specs.declared.Derivation.the-variants.{Steps, None, Refused as Unwritten}
+use Rattle.derivation_writer.specs.WritesDerivation.{writable, Writes}
+use Rattle.call_numbers.specs.Tells.{Numbers, Tells, header-counts, built-counts, bit, derivation-numbers}
+use Rattle.rabbitsteel.specs.Calls.{book-counts, TellsOrder, TellsBuild, TellsAnswer, TellsDerived, TellsDerivation}
 
 -- what is told of an answer is told of the definition that it equals
 pub told-of : {A B : Type 0} (f : A → B) (g : B → Numbers) (x : Result A) {v : Result B} {cause one two three : ℕ} → v ≡ map-result f x
@@ -107,3 +112,18 @@ module _ {s h m h′ m′ : List ℕ} where
 pub tells-answer : {h m : List ℕ} {r : ℕ} {w : Chain} (a : Answer) {cause one two three : ℕ} → Answered h m r w (answers.says a)
     → Tells (map-result bit (answers.says a)) cause one two three → TellsAnswer h m r w cause one
 tells-answer a q t = record { said = answers.says a; answered = q; tells = one-told (answers.says a) t }
+
+-- a derivation tells two numbers
+two-derived : (d : Derivation) {cause one two three : ℕ} → Tells (derivation-numbers d) cause one two three → Tells (derivation-numbers d) cause one two 0
+two-derived (Steps n) t = record { cause-is = t .cause-is; first-is = t .first-is; second-is = t .second-is; third-is = refl }
+two-derived None t = record { cause-is = t .cause-is; first-is = t .first-is; second-is = t .second-is; third-is = refl }
+two-derived (Unwritten x) t = record { cause-is = t .cause-is; first-is = t .first-is; second-is = t .second-is; third-is = refl }
+
+pub tells-derivation : {s : List ℕ} {r : ℕ} {w : Chain} {old new : List ℕ} {d : Derivation} {cause one two three : ℕ}
+    → Writes (writable (length old) s r w) r w old new d → Tells (derivation-numbers d) cause one two three
+    → TellsDerivation s r w old new cause one two
+tells-derivation {d = d} q t = record { said = d; writes = q; tells = two-derived d t }
+
+pub tells-checked : (a : BookAnswer) {x : Result Bool} {cause one two three : ℕ} → answers a ≡ x → Tells (map-result bit (answers a)) cause one two three
+    → Tells (map-result bit x) cause one 0 0
+tells-checked a {x} e t = one-told x (rw e at t)

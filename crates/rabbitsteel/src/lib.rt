@@ -2,10 +2,13 @@
 // numbers lent to it what it tells: counts or an answer, or what document 01 gives beside the cause.
 ghost use Rattle.book_format.specs.Format.{read};
 ghost use Rattle.base.specs.Result.{map-result};
-ghost use Rattle.call_numbers.specs.Tells.{Tells};
-ghost use Rattle.rabbitsteel.specs.Calls.{TellsOrder, TellsBuild, TellsAnswer, TellsDerived, book-counts};
+ghost use Rattle.call_numbers.specs.Tells.{Tells, bit};
+ghost use Rattle.derivation_checker.specs.CheckedDerivation.{checked-derivation};
+ghost use Rattle.rabbitsteel.specs.Calls.{TellsOrder, TellsBuild, TellsAnswer, TellsDerived, TellsDerivation, book-counts};
 use byte_parts::copy;
 use call_numbers::tell_answer;
+use call_numbers::tell_book_answer;
+use call_numbers::tell_derivation;
 use call_numbers::tell_outcome;
 use call_numbers::tell_reply;
 use call_numbers::tell_verdict;
@@ -98,6 +101,44 @@ pub extern "C" fn rabbitsteel_derived(
         (now (moves .exit)) r (now (answer .exit)) ⌝ }
 {
     let told = tell_reply(query_deriver::derived(book, heads, moves, role, chain));
+    *answer = told.first;
+    told.cause
+}
+
+// Writes a derivation of the chain from the role by the rules of the book: steps of four bytes. Causes 1 to 8 and 13 to 16. Derived: 1, and how many steps are
+// written. Not derived: 0 and 0. Refused: the value beside the cause, and 0. The bytes behind the steps are left as they were, and all of them where no
+// steps are written.
+#[no_mangle]
+pub extern "C" fn rabbitsteel_write_derivation(
+    book: &[u8],
+    role: u8,
+    chain: &[u8],
+    steps: &mut [u8],
+    first: &mut u64,
+    second: &mut u64,
+) -> u64
+    ensures { λ r. ⌜ TellsDerivation (now (book .entry)) role (now (chain .entry)) (now (steps .entry)) (now (steps .exit)) r (now (first .exit))
+        (now (second .exit)) ⌝ }
+{
+    let told = tell_derivation(derivation_writer::write(book, role, chain, steps));
+    *first = told.first;
+    *second = told.second;
+    told.cause
+}
+
+// Whether the steps are a derivation of the chain from the role by the rules of the book: 1 for yes, 0 for no. Causes 1 to 8, 13 to 15 and 17. Refused: the value
+// beside the cause.
+#[no_mangle]
+pub extern "C" fn rabbitsteel_check_derivation(
+    book: &[u8],
+    role: u8,
+    chain: &[u8],
+    steps: &[u8],
+    answer: &mut u64,
+) -> u64
+    ensures { λ r. ⌜ Tells (map-result bit (checked-derivation (now (book .entry)) role (now (chain .entry)) (now (steps .entry)))) r (now (answer .exit)) 0 0 ⌝ }
+{
+    let told = tell_book_answer(derivation_checker::check(book, role, chain, steps));
     *answer = told.first;
     told.cause
 }
