@@ -5,55 +5,33 @@ use mathlib.Core.Path.{_≡_, refl, sym, ap, _∙_, subst}
 use Prim.Native.Nat.{ℕ, _+_, _*_, _<_, _≤_}
 use native.Mathlib.Omega.{arith}
 use borrow.Author.Tests.{le-leb, lt-leb}
-use lib.Dec.{leb}
 use lib.ListN.{length, take, drop, length-drop, take-append-drop}
 use lib.Seq.{length-take-le, getD-drop, ext-getD}
-use Rattle.base.specs.Result.{Result, demand, and-then}
-use Rattle.base.specs.Result.Result.{refused, ok}
-use Rattle.base.specs.ResultLaws.{demand-test, demand-rest, map-refused, map-ok, refused-ok}
+use Rattle.base.specs.Result.{Result, and-then}
+use Rattle.base.specs.Result.Result.{ok}
+use Rattle.base.specs.ResultLaws.{map-refused, map-ok}
 use Rattle.base.specs.Writing.{over}
 use Rattle.name_sets.specs.Mask.{has}
 use Rattle.roles.specs.Role.{Chain}
 use Rattle.roles.specs.Rule.{Book, Rule}
-use Rattle.book_format.specs.Format.{named}
-use Rattle.book_format.specs.DeclaredLaws.{named-link}
-use Rattle.book_format.specs.ReadLaws.{read-few-names}
 use Rattle.refusals.specs.declared.book_query.BookQueryRefusal.{BookQueryRefusal}
 use Rattle.refusals.specs.declared.book_query.BookQueryRefusal.the-variants.{Buffer}
-use Rattle.book_causes.specs.Ordered.{ordered}
-use Rattle.book_causes.specs.OrderedRun.{ordered-read}
-use Rattle.query_causes.specs.Query.{question, chain-fits}
 use Rattle.derivation_steps.specs.WrittenSteps.{checked, completed, derivation}
 use Rattle.derivation_steps.specs.LeadsLaws.{leads-front, checked-steps}
 use Rattle.derivation_steps.specs.RunningLaws.{checked-agree}
 use Rattle.derivation_charts.specs.Chart.{ends-of}
-use Rattle.book_questions.specs.ShortQuestion.{short-question, asked-book}
+use Rattle.book_questions.specs.ShortQuestion.{asked-book}
 use Rattle.book_questions.specs.RuleTable.{rule-in}
 use Rattle.book_questions.specs.declared.Admission.{Admission}
 use Rattle.book_questions.specs.declared.Admission.the-variants.{Admitted, Refused as Refused-admission}
 use Rattle.book_questions.specs.Admission.{says}
 use Rattle.derivation_search.specs.Searched.{Searched, Searches}
+use Rattle.derivation_search.specs.SearchedLaws.{asked}
 use Rattle.derivation_writer.specs.WritesDerivation.{lent-enough, writable, Writes, Gives}
 use Rattle.derivation_writer.specs.WritesDerivation.Writes.{refuses, no, steps}
 use Rattle.derivation_writer.specs.Tracing.{Ready, Traced}
 use Rattle.derivation_writer.specs.declared.Derivation.the-variants.{Steps, None, Refused}
 use Rattle.derivation_writer.specs.declared.Derivation.{Derivation}
-
--- the role of a question that is one to answer
-pub asked-role : (s : List ℕ) (r : ℕ) (w : Chain) (b : Book) → asked-book s r w ≡ ok b → r < 128
-unfolding asked-book
-asked-role s r w b h = by-book (ordered s) refl h
-  where
-    by-question : (c : Book) → ordered s ≡ ok c → (q : Result (Unit {0})) → question (c .names) r w ≡ q
-        → and-then q (λ _. demand (leb (length w) 16) 15 0 (ok c)) ≡ ok b → r < 128
-    by-question c o (refused x y) e g = absurd (refused-ok x y b g)
-    by-question c o (ok z) e g =
-        let all : named (c .names) (r ∷ w) ≡ true = demand-test (named (c .names) (r ∷ w)) 14 0 (ok tt) z (demand-rest (chain-fits w) 13 0 (demand (named (c .names) (r ∷ w)) 14 0 (ok tt)) z e) in
-        omega (arith, named-link (c .names) (r ∷ w) all 0 (omega arith), read-few-names s c (ordered-read s c o))
-
-    by-book : (o : Result Book) → ordered s ≡ o → and-then o (λ c. short-question c r w) ≡ ok b → r < 128
-    by-book (refused x y) e g = absurd (refused-ok x y b g)
-    by-book (ok c) e g = by-question c e (question (c .names) r w) refl g
 
 -- what a search finds, for a writer
 abbrev pub searched-ready : {ρs : List Rule} {w : Chain} {table chart : List ℕ} → Searched ρs w table chart → Ready table w chart
@@ -110,17 +88,17 @@ module _ {s : List ℕ} {r : ℕ} {w : Chain} {table table′ chart chart′ : L
       (writable-from s r w (length old) _ (map-refused (λ b. length (b .rules)) (asked-book s r w) (ap says (sym e) ∙ q .answer)))
 
   module _ {rules : ℕ} (e : a ≡ Admitted rules) (t : length table ≡ 8192) (l : length chart ≡ 37008) where
-    asked : (b : Book) × (asked-book s r w ≡ ok b) × (rules ≡ length (b .rules))
-    asked = map-ok (λ b. length (b .rules)) (asked-book s r w) (ap says (sym e) ∙ q .answer)
+    book : (b : Book) × (asked-book s r w ≡ ok b) × (rules ≡ length (b .rules))
+    book = map-ok (λ b. length (b .rules)) (asked-book s r w) (ap says (sym e) ∙ q .answer)
 
     pub some-searched : (ρs : List Rule) × Searched ρs w table′ chart′
-    some-searched = (asked .0 .rules, q .searched (asked .0) (asked .1) t l)
+    some-searched = (book .0 .rules, q .searched (book .0) (book .1) t l)
 
     pub role-named : r < 128
-    role-named = asked-role s r w (asked .0) (asked .1)
+    role-named = asked s r w (book .0) (book .1) .role
 
     pub writes-given : (old : List ℕ) {new : List ℕ} {d : Derivation} → ((b : Book) → Searched (b .rules) w table′ chart′ → Gives b r w old new d)
         → Writes (writable (length old) s r w) r w old new d
     writes-given old {new} {d} g =
-        subst (λ (c : Result Book). Writes c r w old new d) (sym (writable-from s r w (length old) _ (asked .1)))
-        (g (asked .0) (q .searched (asked .0) (asked .1) t l))
+        subst (λ (c : Result Book). Writes c r w old new d) (sym (writable-from s r w (length old) _ (book .1)))
+        (g (book .0) (q .searched (book .0) (book .1) t l))
