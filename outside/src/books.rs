@@ -39,6 +39,15 @@ pub fn ladder(names: u8) -> Vec<u8> {
     encode(names, &rules)
 }
 
+/// A book with long ways of one-link rules: 64 names, each but the first above the one before it, all symmetric, and the
+/// last transitive. From the last name each link takes 63 steps down to the first, and one more to its inverse.
+pub fn long_ways() -> Vec<u8> {
+    let mut rules: Vec<Axiom> = (1..64).map(|name| (2 * name, vec![2 * name - 2])).collect();
+    rules.extend((0..64).map(|name| (2 * name, vec![2 * name + 1])));
+    rules.push((126, vec![126, 126]));
+    encode(64, &rules)
+}
+
 /// What a drawn book looks like.
 #[derive(Clone, Debug)]
 pub struct Style {

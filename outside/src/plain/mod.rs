@@ -1,10 +1,12 @@
-//! The engine of document 01 in plain Rust, without proofs. The five calls have the interface of the archive's
-//! C functions; beside them stand two other ways to decide membership, from the completed rules alone, and another way
-//! to find the levels.
+//! The engine of document 01 in plain Rust, without proofs, with written derivations. The seven calls have the interface
+//! of the archive's C functions; beside them stand two other ways to decide membership, from the completed rules alone,
+//! another way to find the levels, and another way to check a written derivation.
 #![forbid(unsafe_code)]
 
 pub mod book;
 pub mod completion;
+pub mod derivation_checker;
+pub mod derivation_writer;
 pub mod intervals;
 pub mod levels;
 pub mod order;
@@ -13,11 +15,14 @@ pub mod program;
 pub mod query;
 pub mod refusal;
 pub mod rewriting;
+pub mod steps;
 pub mod tables;
 #[cfg(test)]
 mod tests;
 
 pub use book::left;
+pub use derivation_checker::check_derivation;
+pub use derivation_writer::write_derivation;
 pub use query::ask;
 pub use refusal::{Cause, Refusal};
 pub use tables::build;

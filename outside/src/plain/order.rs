@@ -100,12 +100,19 @@ fn rising(below: &[u64]) -> [u8; MAX_NAMES] {
     row
 }
 
-/// Cause 8, or the levels. A role is below another exactly when its inverse is below the other's inverse, so an order on
-/// roles exists exactly when one on names does: a rule breaks it when its right name is below one of its inner names.
+/// Cause 8, or the levels.
 pub fn check(book: &Book) -> Result<Levels, Refusal> {
-    // The names below each name, closed under transitivity.
-    let mut below = [0u64; MAX_NAMES];
-    let below = &mut below[..book.names()];
+    let below = ordered(book)?;
+    Ok(Levels::of(&below[..book.names()]))
+}
+
+/// Cause 8, or the names below each name. A role is below another exactly when its inverse is below the other's inverse,
+/// so an order on roles exists exactly when one on names does: a rule breaks it when its right name is below one of its
+/// inner names.
+pub fn ordered(book: &Book) -> Result<[u64; MAX_NAMES], Refusal> {
+    // Closed under transitivity.
+    let mut all = [0u64; MAX_NAMES];
+    let below = &mut all[..book.names()];
     for number in 0..book.rules() {
         let rule = book.rule(number);
         let right = usize::from(rule.right >> 1);
@@ -126,5 +133,5 @@ pub fn check(book: &Book) -> Result<Levels, Refusal> {
             }
         }
     }
-    Ok(Levels::of(below))
+    Ok(all)
 }

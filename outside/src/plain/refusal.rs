@@ -1,6 +1,6 @@
-//! The causes of document 01 that refuse an input, and the value returned beside each.
+//! The causes of documents 01 and 02 that refuse an input, and the value returned beside each.
 
-/// What refuses; the numbers are document 01's.
+/// What refuses; the numbers are the documents'.
 #[derive(Clone, Copy, Debug, PartialEq, Eq)]
 #[repr(u64)]
 pub enum Cause {
@@ -29,6 +29,12 @@ pub enum Cause {
     ChainLength = 13,
     /// A role byte, asked or in the chain, of twice the heads or more.
     QueryRole = 14,
+    /// A chain of over 16 links, where a derivation is asked for.
+    LongChain = 15,
+    /// Fewer than 16,384 bytes lent for the steps.
+    ShortSteps = 16,
+    /// Steps that are not in fours, or the first impossible one.
+    Step = 17,
 }
 
 /// A refused input: the first cause met, and the value beside it.
@@ -39,11 +45,11 @@ pub struct Refusal {
 }
 
 impl Refusal {
-    /// A refusal that names a rule.
-    pub fn at(cause: Cause, rule: usize) -> Refusal {
+    /// A refusal that names a rule or a step.
+    pub fn at(cause: Cause, number: usize) -> Refusal {
         Refusal {
             cause,
-            value: rule as u64,
+            value: number as u64,
         }
     }
 }

@@ -1,13 +1,15 @@
-//! The examples, edges and misreadings of document 01, tried on the plain engine.
+//! The examples, edges and misreadings of document 01 and of written derivations, tried on the plain engine.
 
 use super::book::Book;
+use super::derivation_writer::LENT_BYTES;
 use super::intervals::Intervals;
 use super::program::{run, Indexing};
 use super::query::Indexed;
 use super::rewriting::Rewriting;
 use super::tables::{MAX_STATES, MAX_TRANSITIONS};
 use super::*;
-use crate::books::{careless, encode, ladder, Draft, Style, HALL};
+use crate::books::{careless, encode, ladder, long_ways, Draft, Style, HALL};
+use crate::chains::{self, Replacements};
 use crate::random::Random;
 use std::fmt::Debug;
 
@@ -564,4 +566,201 @@ fn many_questions_to_one_index() {
         assert_eq!(indexed.ask(SITS, &chain), Ok(true));
         assert_eq!(indexed.ask(PART, &chain), Ok(false));
     }
+}
+
+/// A derivation as it is written, with more bytes lent than needed; none where the chain is not derived. Whatever the
+/// answer, the other bytes keep their values.
+fn written(book: &[u8], role: u8, chain: &[u8]) -> Result<Option<Vec<[u8; 4]>>, Refusal> {
+    let before: Vec<u8> = (0..LENT_BYTES + 9)
+        .map(|place| place as u8 ^ 0x5A)
+        .collect();
+    let mut lent = before.clone();
+    let reply = write_derivation(book, role, chain, &mut lent);
+    let count = reply.unwrap_or(None).unwrap_or(0) as usize;
+    assert!(count <= 3952);
+    assert_eq!(lent[4 * count..], before[4 * count..]);
+    let (steps, _) = lent.as_chunks();
+    Ok(reply?.map(|_| steps[..count].to_vec()))
+}
+
+/// What the checker says of steps, which is what their sentence says.
+fn checked(book: &[u8], role: u8, chain: &[u8], steps: &[[u8; 4]]) -> Result<bool, Refusal> {
+    let reply = check_derivation(book, role, chain, steps.as_flattened());
+    let owed = match steps::ending(&Book::read(book).unwrap(), role, steps) {
+        Ok(ending) => Ok(ending == chain),
+        Err(number) => Err(Refusal::at(Cause::Step, number)),
+    };
+    assert_eq!(reply, owed);
+    reply
+}
+
+/// Whether a chain is derived, by the writer and by intervals; what is written leads to it.
+fn derivable(book: &[u8], role: u8, chain: &[u8]) -> bool {
+    let steps = written(book, role, chain).unwrap();
+    let intervals = Intervals::new(&Book::read(book).unwrap()).roles(chain);
+    assert_eq!(steps.is_some(), intervals >> role & 1 == 1);
+    if let Some(steps) = &steps {
+        assert_eq!(checked(book, role, chain, steps), Ok(true));
+    }
+    steps.is_some()
+}
+
+#[test]
+fn hall_derivations() {
+    let steps = written(HALL, DUE, &[PART, PART, SITS, LET]);
+    // due; sits let; part sits let; part part sits let
+    let by_hand = vec![[0, 0, 2, 0], [0, 0, 1, 0], [1, 0, 1, 0]];
+    assert_eq!(steps, Ok(Some(by_hand)));
+    // The inverses: inv let inv sits; then inv sits inv part at place 1.
+    let steps = written(HALL, inv(DUE), &[inv(LET), inv(SITS), inv(PART)]);
+    assert_eq!(steps, Ok(Some(vec![[0, 0, 2, 1], [1, 0, 1, 1]])));
+    assert_eq!(written(HALL, DUE, &[DUE]), Ok(Some(Vec::new())));
+    assert_eq!(written(HALL, DUE, &[SITS, PART, LET]), Ok(None));
+    assert!(derivable(HALL, PART, &[PART; 16]));
+    assert!(!derivable(HALL, SITS, &[PART; 16]));
+}
+
+#[test]
+fn steps_by_hand() {
+    let chain = [PART, PART, SITS, LET];
+    let check = |steps: &[[u8; 4]]| checked(HALL, DUE, &chain, steps);
+    let step = |number| Err(Refusal::at(Cause::Step, number));
+    assert_eq!(check(&[[0, 0, 2, 0], [0, 0, 1, 0], [1, 0, 1, 0]]), Ok(true));
+    // Another derivation of the same chain.
+    assert_eq!(check(&[[0, 0, 2, 0], [0, 0, 1, 0], [0, 0, 0, 0]]), Ok(true));
+    // Possible steps that end elsewhere.
+    assert_eq!(check(&[]), Ok(false));
+    assert_eq!(check(&[[0, 0, 2, 0], [0, 0, 1, 0]]), Ok(false));
+    assert_eq!(checked(HALL, DUE, &[DUE], &[]), Ok(true));
+    // No such place, rule or side, and another link there.
+    assert_eq!(check(&[[1, 0, 2, 0]]), step(0));
+    assert_eq!(check(&[[0, 1, 2, 0]]), step(0));
+    assert_eq!(check(&[[0, 0, 2, 0], [2, 0, 1, 0]]), step(1));
+    assert_eq!(check(&[[0, 0, 3, 0]]), step(0));
+    assert_eq!(check(&[[0, 0, 2, 2]]), step(0));
+    assert_eq!(check(&[[0, 0, 2, 1]]), step(0));
+    assert_eq!(check(&[[0, 0, 2, 0], [0, 0, 0, 0]]), step(1));
+    // The first impossible step counts, whatever follows.
+    assert_eq!(check(&[[0, 0, 2, 0], [0, 0, 9, 0], [9, 9, 9, 9]]), step(1));
+    // 16 links pass and 17 do not, though they could not end in the chain.
+    let parts = [PART; 16];
+    let mut steps = vec![[0, 0, 0, 0]; 15];
+    assert_eq!(checked(HALL, PART, &parts, &steps), Ok(true));
+    assert_eq!(checked(HALL, PART, &parts[1..], &steps), Ok(false));
+    steps.push([0, 0, 0, 0]);
+    assert_eq!(checked(HALL, PART, &parts, &steps), step(15));
+    // Bytes that are not in fours come before any step.
+    for length in [1, 2, 3, 5, 61] {
+        let reply = check_derivation(HALL, DUE, &chain, &[9; 61][..length]);
+        assert_eq!(refusal(reply), (17, 0));
+    }
+}
+
+#[test]
+fn derivation_refusals() {
+    let mut lent = [7; LENT_BYTES];
+    let mut both = |book: &[u8], role, chain: &[u8], owed| {
+        let reply = write_derivation(book, role, chain, &mut lent);
+        assert_eq!(refusal(reply), owed);
+        assert_eq!(refusal(write_derivation(book, role, chain, &mut [])), owed);
+        // What is wrong with the steps comes last.
+        assert_eq!(refusal(check_derivation(book, role, chain, &[9])), owed);
+        assert_eq!(lent, [7; LENT_BYTES]);
+    };
+    both(&HALL[..19], 9, &[], (5, 2));
+    both(&encode(2, &[(R, [S]), (S, [R])]), 9, &[], (8, 1));
+    // 0 links and over 1,024 come before a bad role, that before over 16 links.
+    both(HALL, 9, &[], (13, 0));
+    both(HALL, PART, &[], (13, 0));
+    both(HALL, 9, &[PART; 1025], (13, 0));
+    both(HALL, 8, &[PART; 17], (14, 0));
+    both(HALL, PART, &[8; 17], (14, 0));
+    both(HALL, PART, &[8], (14, 0));
+    both(HALL, PART, &[PART; 17], (15, 0));
+    both(HALL, PART, &[PART; 1024], (15, 0));
+    // A buffer lent too short is refused before the answer is known.
+    for chain in [&[PART][..], &[SITS], &[PART; 16]] {
+        let reply = write_derivation(HALL, PART, chain, &mut lent[1..]);
+        assert_eq!(refusal(reply), (16, 0));
+        let reply = write_derivation(HALL, PART, chain, &mut []);
+        assert_eq!(refusal(reply), (16, 0));
+    }
+    assert_eq!(lent, [7; LENT_BYTES]);
+    assert_eq!(
+        write_derivation(HALL, PART, &[PART; 2], &mut lent),
+        Ok(Some(1))
+    );
+    assert_eq!(lent[..5], [0, 0, 0, 0, 7]);
+}
+
+#[test]
+fn derivations_of_any_length() {
+    // inv(R) to R: rule, inverse, rule and so on for ever.
+    let symmetric = encode(1, &[(R, [inv(R)])]);
+    let mut steps: Vec<[u8; 4]> = [[0; 4], [0, 0, 0, 1]].repeat(40_000);
+    assert_eq!(checked(&symmetric, R, &[R], &steps), Ok(true));
+    assert_eq!(checked(&symmetric, R, &[inv(R)], &steps), Ok(false));
+    steps.push([0, 0, 0, 1]);
+    assert_eq!(
+        checked(&symmetric, R, &[R], &steps),
+        Err(Refusal::at(Cause::Step, 80_000))
+    );
+    steps[80_000] = [0; 4];
+    assert_eq!(checked(&symmetric, R, &[inv(R)], &steps), Ok(true));
+}
+
+#[test]
+fn long_ways_of_one_link_rules() {
+    // From the last name down to the inverse of the first takes 64 steps, and 15 make 16 links of it.
+    let steps = written(&long_ways(), 126, &[1; 16]).unwrap().unwrap();
+    assert_eq!(steps.len(), 15 + 16 * 64);
+    assert!(derivable(&long_ways(), 126, &[1; 16]));
+    // More than 2,048 states are no matter.
+    let (mut heads, mut moves) = ([0; 64], [0; 3 * MAX_TRANSITIONS]);
+    let reply = build(&long_ways(), &mut heads, &mut moves);
+    assert_eq!(refusal(reply), (9, 0));
+}
+
+#[test]
+fn derivations_by_other_methods() {
+    let (mut yes, mut no, mut most) = (0, 0, 0);
+    for seed in 0..3000 {
+        let random = &mut Random::new(seed);
+        let style = Style {
+            states: random.pick(&[MAX_STATES as u64, u64::MAX]),
+            ..Style::draw(random)
+        };
+        let draft = Draft::draw(random, &style);
+        let (book, names) = (draft.bytes(), draft.names);
+        let replacements = Replacements::new(names, &draft.rules);
+        let role = random.below(2 * names) as u8;
+        let links = random.between(1, 16);
+        let derived = replacements.derive(random, role, links);
+        assert!(derivable(&book, role, &derived));
+        let steps = written(&book, role, &derived).unwrap().unwrap();
+        most = most.max(steps.len());
+        let near = chains::nearly(random, &derived, names);
+        if near.len() <= 16 {
+            let found = derivable(&book, role, &near);
+            (yes, no) = (yes + u64::from(found), no + u64::from(!found));
+            if near.len() <= 6 {
+                let read = Book::read(&book).unwrap();
+                if let Some(roles) = Rewriting::new(&read).roles(&near, 2000) {
+                    assert_eq!(roles >> role & 1 == 1, found);
+                }
+            }
+        }
+        // Each byte of a short derivation changed, and its front parts.
+        for number in 0..steps.len().min(4) {
+            for byte in 0..4 {
+                let mut damaged = steps.clone();
+                damaged[number][byte] = random.below(4) as u8;
+                let _ = checked(&book, role, &derived, &damaged);
+                damaged[number][byte] = random.byte();
+                let _ = checked(&book, role, &derived, &damaged);
+            }
+            let _ = checked(&book, role, &derived, &steps[..number]);
+        }
+    }
+    assert!(yes > 300 && no > 300 && most > 15, "{yes} {no} {most}");
 }
