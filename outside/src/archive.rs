@@ -1,4 +1,4 @@
-//! The proved archive: its five C functions as safe calls on slices.
+//! The proved archive: its seven C functions as safe calls on slices.
 
 use crate::plain::Refusal;
 
@@ -22,11 +22,19 @@ mod c {
             book: *const u8, book_len: usize, heads: *mut u16, heads_len: usize, moves: *mut u16, moves_len: usize,
             role: u8, chain: *const u8, chain_len: usize, answer: *mut u64,
         ) -> u64;
+        pub fn rabbitsteel_write_derivation(
+            book: *const u8, book_len: usize, role: u8, chain: *const u8, chain_len: usize,
+            steps: *mut u8, steps_len: usize, first: *mut u64, second: *mut u64,
+        ) -> u64;
+        pub fn rabbitsteel_check_derivation(
+            book: *const u8, book_len: usize, role: u8, chain: *const u8, chain_len: usize,
+            steps: *const u8, steps_len: usize, answer: *mut u64,
+        ) -> u64;
     }
 }
 
-/// What a call gives back: 0 or the number of the cause, and the numbers beside it. The reader has two such numbers and
-/// a question one, 1 for yes and 0 for no; the others are 0 here.
+/// What a call gives back: 0 or the number of the cause, and the numbers beside it. The reader and the writer of
+/// derivations have two such numbers and a question one, 1 for yes and 0 for no; the others are 0 here.
 #[derive(Clone, Copy, Debug, PartialEq, Eq)]
 pub struct Reply {
     pub cause: u64,
@@ -76,6 +84,15 @@ impl From<Result<(u64, u64), Refusal>> for Reply {
 impl From<Result<bool, Refusal>> for Reply {
     fn from(result: Result<bool, Refusal>) -> Reply {
         result.map(|answer| (u64::from(answer), 0)).into()
+    }
+}
+
+/// The writer's: 1 and the number of steps, or 0 for no.
+impl From<Result<Option<u64>, Refusal>> for Reply {
+    fn from(result: Result<Option<u64>, Refusal>) -> Reply {
+        result
+            .map(|count| (u64::from(count.is_some()), count.unwrap_or(0)))
+            .into()
     }
 }
 
@@ -182,6 +199,55 @@ pub fn derived(book: &[u8], heads: &mut [u16], moves: &mut [u16], role: u8, chai
             role,
             chain.as_ptr(),
             chain.len(),
+            &mut first,
+        )
+    };
+    Reply {
+        cause,
+        first,
+        second: 0,
+        third: 0,
+    }
+}
+
+/// Causes 1 to 8 and 13 to 16; accepted: 1 and the number of steps, which stand in the lent slice, or 0 for no.
+pub fn write_derivation(book: &[u8], role: u8, chain: &[u8], steps: &mut [u8]) -> Reply {
+    let (mut first, mut second) = (UNSET, UNSET);
+    // SAFETY: as in `read`; the lent slice overlaps neither the book nor the chain.
+    let cause = unsafe {
+        c::rabbitsteel_write_derivation(
+            book.as_ptr(),
+            book.len(),
+            role,
+            chain.as_ptr(),
+            chain.len(),
+            steps.as_mut_ptr(),
+            steps.len(),
+            &mut first,
+            &mut second,
+        )
+    };
+    Reply {
+        cause,
+        first,
+        second,
+        third: 0,
+    }
+}
+
+/// Causes 1 to 8, 13 to 15 and 17; accepted: 1 where the steps lead from the role to the chain, else 0.
+pub fn check_derivation(book: &[u8], role: u8, chain: &[u8], steps: &[u8]) -> Reply {
+    let mut first = UNSET;
+    // SAFETY: as in `read`.
+    let cause = unsafe {
+        c::rabbitsteel_check_derivation(
+            book.as_ptr(),
+            book.len(),
+            role,
+            chain.as_ptr(),
+            chain.len(),
+            steps.as_ptr(),
+            steps.len(),
             &mut first,
         )
     };

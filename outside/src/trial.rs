@@ -4,7 +4,8 @@
 
 use crate::archive::{self, Reply};
 use crate::plain::book::Book;
-use crate::plain::{self, levels};
+use crate::plain::derivation_writer::MAX_STEPS;
+use crate::plain::{self, levels, steps};
 use crate::random::Random;
 use std::collections::BTreeMap;
 use std::fmt::Display;
@@ -271,6 +272,83 @@ impl Trial {
         self.tally("ask", owed)
     }
 
+    /// Puts a question to the writer of derivations, with so many bytes lent between fences; the steps where it writes
+    /// some. Which derivation it writes is free, so the steps are put to both checkers.
+    pub fn write_derivation(
+        &mut self,
+        book: &[u8],
+        role: u8,
+        chain: &[u8],
+        lent: usize,
+    ) -> Option<Vec<u8>> {
+        let kept = (book.to_vec(), chain.to_vec());
+        let noise = self.noise[..lent + 2 * FENCE].iter();
+        let before: Vec<u8> = noise.map(|number| *number as u8).collect();
+        let mut given_bytes = before.clone();
+        let given =
+            archive::write_derivation(book, role, chain, &mut given_bytes[FENCE..FENCE + lent]);
+        let owed = plain::write_derivation(book, role, chain, &mut vec![0; lent]).into();
+        let count = given.second as usize;
+        let same = Reply { second: 0, ..given } == Reply { second: 0, ..owed };
+        let counted = count <= MAX_STEPS && (given.first == 1 || count == 0);
+        let lent_kept = kept.0 == black_box(book) && kept.1 == black_box(chain);
+        let written = FENCE..FENCE + 4 * count.min(lent / 4);
+        let mut outside = given_bytes.clone();
+        outside[written.clone()].copy_from_slice(&before[written.clone()]);
+        if !same || !counted || !lent_kept || outside != before {
+            let mut input = derivation_input(book, role, chain);
+            input.push(("bytes lent", lent.to_string()));
+            input.extend(difference("bytes behind the steps", &outside, &before));
+            self.fail("write_derivation", given, owed, &input);
+        }
+        self.tally("write_derivation", owed);
+        if given
+            != (Reply {
+                cause: 0,
+                first: 1,
+                ..given
+            })
+        {
+            return None;
+        }
+        self.most("steps", count as u64);
+        let steps = given_bytes[written].to_vec();
+        let reply = self.check_derivation(book, role, chain, &steps);
+        let mut input = derivation_input(book, role, chain);
+        input.push(("steps", hex(&steps)));
+        self.check(
+            reply == Reply::answered(true),
+            "the steps do not lead to the chain",
+            &input,
+        );
+        Some(steps)
+    }
+
+    /// Puts steps to the checker of derivations. Where the question is not refused, it is held to its sentence as well.
+    pub fn check_derivation(&mut self, book: &[u8], role: u8, chain: &[u8], steps: &[u8]) -> Reply {
+        let kept = (book.to_vec(), chain.to_vec(), steps.to_vec());
+        let given = archive::check_derivation(book, role, chain, steps);
+        let owed = plain::check_derivation(book, role, chain, steps).into();
+        let lent_kept =
+            kept.0 == black_box(book) && kept.1 == black_box(chain) && kept.2 == black_box(steps);
+        let mut input = derivation_input(book, role, chain);
+        input.push(("steps", hex(&steps[..steps.len().min(4 * MAX_STEPS)])));
+        if given != owed || !lent_kept {
+            self.fail("check_derivation", given, owed, &input);
+        }
+        if let (0 | 17, (steps, [])) = (owed.cause, steps.as_chunks()) {
+            let book = Book::read(book).expect("the book was accepted");
+            let ending = match steps::ending(&book, role, steps) {
+                Ok(ending) => (0, u64::from(ending == chain)),
+                Err(number) => (17, number as u64),
+            };
+            let same = ending == (owed.cause, owed.first);
+            self.check(same, "the checkers and the sentence differ", &input);
+            self.most("steps checked", steps.len() as u64);
+        }
+        self.tally("check_derivation", owed)
+    }
+
     /// Counts something worth telling.
     pub fn count(&mut self, what: &'static str, times: u64) {
         *self.counts.entry(what).or_default() += times;
@@ -342,10 +420,8 @@ impl Trial {
         );
         for (call, tally) in &self.tallies {
             let accepted = match *call {
-                "ask" | "derived" => {
-                    format!("yes {}, no {}", tally.yes, tally.accepted - tally.yes)
-                }
-                _ => format!("accepted {}", tally.accepted),
+                "read" | "order" | "build" => format!("accepted {}", tally.accepted),
+                _ => format!("yes {}, no {}", tally.yes, tally.accepted - tally.yes),
             };
             let mut refused = String::new();
             for (cause, times) in &tally.refused {
@@ -384,6 +460,15 @@ impl Call<'_> {
         }
         input
     }
+}
+
+/// A question about a book, as it is told.
+fn derivation_input(book: &[u8], role: u8, chain: &[u8]) -> Vec<(&'static str, String)> {
+    vec![
+        ("book", hex(book)),
+        ("role", hex(&[role])),
+        ("chain", hex(chain)),
+    ]
 }
 
 /// Where two lent slices first differ. Places before 0 and after the last are fences.

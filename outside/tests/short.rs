@@ -2,7 +2,7 @@
 
 use outside::archive::{self, Reply};
 use outside::books::{encode, fullest, ladder, longest, HALL};
-use outside::cases::{books, damage, lent, tables};
+use outside::cases::{books, damage, derivations, lent, tables};
 use outside::trial::run_exactly;
 
 fn accepted(first: u64, second: u64, third: u64) -> Reply {
@@ -118,6 +118,58 @@ fn levels() {
     let mut levels = [0; 3];
     assert_eq!(archive::order(&inverses, &mut levels), accepted(3, 3, 3));
     assert_eq!(levels, [3, 2, 1]);
+}
+
+/// Derivations of the hall book that are the only ones, and what both calls refuse.
+#[test]
+fn hall_derivations() {
+    let written: [(u8, &[u8], Reply, &[u8]); 6] = [
+        (6, &[2, 4], accepted(1, 1, 0), &[0, 0, 2, 0]),
+        (7, &[5, 3, 1], accepted(1, 2, 0), &[0, 0, 2, 1, 1, 0, 1, 1]),
+        (6, &[6], accepted(1, 0, 0), &[]),
+        (6, &[2, 0, 4], accepted(0, 0, 0), &[]),
+        (6, &[], refused(13, 0), &[]),
+        (6, &[8; 17], refused(14, 0), &[]),
+    ];
+    for (role, chain, owed, steps) in written {
+        let mut lent = [99; 16_384];
+        let reply = archive::write_derivation(HALL, role, chain, &mut lent);
+        assert_eq!(reply, owed);
+        assert_eq!(lent[..steps.len()], *steps);
+        assert!(lent[steps.len()..].iter().all(|&byte| byte == 99));
+        let owed = match owed.cause {
+            0 => Reply::answered(chain != [2, 0, 4]),
+            _ => owed,
+        };
+        let steps = if chain == [2, 0, 4] {
+            &[0, 0, 2, 0]
+        } else {
+            steps
+        };
+        assert_eq!(archive::check_derivation(HALL, role, chain, steps), owed);
+    }
+    let write =
+        |chain: &[u8], lent: usize| archive::write_derivation(HALL, 0, chain, &mut vec![0; lent]);
+    assert_eq!(write(&[0; 17], 0), refused(15, 0));
+    assert_eq!(write(&[2], 16_383), refused(16, 0));
+    assert_eq!(write(&[2], 16_384), accepted(0, 0, 0));
+    assert_eq!(write(&[0; 16], 16_384), accepted(1, 15, 0));
+    let check = |steps: &[u8]| archive::check_derivation(HALL, 6, &[2, 4], steps);
+    assert_eq!(check(&[]), Reply::answered(false));
+    assert_eq!(check(&[0, 0, 2]), refused(17, 0));
+    assert_eq!(check(&[0, 0, 2, 0, 0, 0, 2, 0]), refused(17, 1));
+}
+
+#[test]
+fn a_little_of_derivations() {
+    run_exactly("written", 60, derivations::WRITTEN, derivations::written);
+    run_exactly("damaged", 30, derivations::DAMAGED, derivations::damaged);
+    run_exactly("limits", 1, derivations::LIMITS, |trial, random| {
+        derivations::limits(trial, random, HALL);
+    });
+    run_exactly("to_and_fro", 1, derivations::LONG, |trial, _| {
+        derivations::to_and_fro(trial, 80_000);
+    });
 }
 
 #[test]

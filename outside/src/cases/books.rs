@@ -4,6 +4,8 @@ use crate::archive::Reply;
 use crate::books::{careless, encode, Axiom, Draft, Style, MOST_RULES};
 use crate::chains::{self, Replacements};
 use crate::plain::book::Book;
+use crate::plain::derivation_checker::MAX_DERIVED_LINKS;
+use crate::plain::derivation_writer::LENT_BYTES;
 use crate::plain::intervals::Intervals;
 use crate::plain::rewriting::Rewriting;
 use crate::random::Random;
@@ -29,6 +31,8 @@ pub const VALID: &[Met] = &[
     Met::Refused("derived", 11),
     Met::Refused("derived", 13),
     Met::Refused("derived", 14),
+    Met::Yes("write_derivation"),
+    Met::No("write_derivation"),
     Met::Counted("questions by intervals"),
     Met::Counted("questions by rewriting"),
     Met::Counted("levels by their sentence"),
@@ -93,6 +97,7 @@ pub fn near_limit(trial: &mut Trial, random: &mut Random) {
 pub const OVER_LIMIT: &[Met] = &[
     Met::Accepted("order"),
     Met::Refused("build", 9),
+    Met::Yes("write_derivation"),
     Met::Counted("levels by their sentence"),
 ];
 
@@ -116,6 +121,8 @@ pub const WITHOUT_ORDER: &[Met] = &[
     Met::Refused("order", 8),
     Met::Refused("build", 8),
     Met::Refused("derived", 8),
+    Met::Refused("write_derivation", 8),
+    Met::Refused("check_derivation", 8),
 ];
 
 /// A book with a rule, or a few, that leave it without an order.
@@ -160,8 +167,8 @@ pub fn any_rules(trial: &mut Trial, random: &mut Random) {
 }
 
 /// Reads, checks and builds a book, with levels lent for all names and with fewer or more, and with tables lent that are
-/// long enough, a little too short or empty. What is wrong with a book comes before what is wrong with the tables, and
-/// that before what is wrong with a question.
+/// long enough, a little too short or empty, and asks it for a derivation. What is wrong with a book comes before what is
+/// wrong with the tables or the steps, and that before what is wrong with a question.
 fn everything(trial: &mut Trial, random: &mut Random, book: &[u8]) -> Option<Tables> {
     trial.read(book);
     trial.order(book, 64);
@@ -169,6 +176,10 @@ fn everything(trial: &mut Trial, random: &mut Random, book: &[u8]) -> Option<Tab
     trial.build(book, 0, 0);
     trial.build(book, 0, 15360);
     trial.derived(book, 64, 0, 255, &[]);
+    trial.write_derivation(book, 255, &[], 0);
+    trial.write_derivation(book, 1, &[1], LENT_BYTES);
+    trial.check_derivation(book, 255, &[], &[0]);
+    trial.check_derivation(book, 1, &[1], &[0; 4]);
     let tables = trial.build(book, 64, 15360)?;
     let (heads, moves) = (tables.heads.len(), tables.moves.len());
     let heads_lent = (heads + random.below(4)).saturating_sub(1);
@@ -264,6 +275,9 @@ impl Asker<'_> {
         }
         self.other_methods(trial, chain, roles);
         self.build_and_ask(trial, random, chain, roles);
+        if chain.len() <= MAX_DERIVED_LINKS {
+            self.written(trial, random, chain, roles);
+        }
     }
 
     fn some_roles(&self, trial: &mut Trial, random: &mut Random, chain: &[u8]) {
@@ -303,6 +317,22 @@ impl Asker<'_> {
             ("chain", hex(chain)),
         ];
         trial.check(same, "derived and ask differ", &input);
+    }
+
+    /// Each yes of the tables has a derivation, and no other question has.
+    fn written(&self, trial: &mut Trial, random: &mut Random, chain: &[u8], roles: u128) {
+        let any = random.below(2 * self.names) as u8;
+        let derived = (0..2 * self.names as u8).find(|role| roles >> role & 1 == 1);
+        for role in [any, derived.unwrap_or(any)] {
+            let steps = trial.write_derivation(self.book, role, chain, LENT_BYTES);
+            let same = steps.is_some() == (roles >> role & 1 == 1);
+            let input = [
+                ("book", hex(self.book)),
+                ("role", hex(&[role])),
+                ("chain", hex(chain)),
+            ];
+            trial.check(same, "tables and written derivations differ", &input);
+        }
     }
 
     /// Questions at and past the limits, put to the tables and to the whole way.

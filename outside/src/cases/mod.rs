@@ -3,5 +3,6 @@
 
 pub mod books;
 pub mod damage;
+pub mod derivations;
 pub mod lent;
 pub mod tables;

@@ -1,7 +1,7 @@
 //! The examples, edges and misreadings of document 01 and of written derivations, tried on the plain engine.
 
 use super::book::Book;
-use super::derivation_writer::LENT_BYTES;
+use super::derivation_writer::{LENT_BYTES, MAX_STEPS};
 use super::intervals::Intervals;
 use super::program::{run, Indexing};
 use super::query::Indexed;
@@ -577,7 +577,7 @@ fn written(book: &[u8], role: u8, chain: &[u8]) -> Result<Option<Vec<[u8; 4]>>, 
     let mut lent = before.clone();
     let reply = write_derivation(book, role, chain, &mut lent);
     let count = reply.unwrap_or(None).unwrap_or(0) as usize;
-    assert!(count <= 3952);
+    assert!(count <= MAX_STEPS);
     assert_eq!(lent[4 * count..], before[4 * count..]);
     let (steps, _) = lent.as_chunks();
     Ok(reply?.map(|_| steps[..count].to_vec()))
