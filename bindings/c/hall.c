@@ -1,7 +1,7 @@
 /*
  * The worked example: prints the levels of the hall book's names, builds its tables, asks it five
- * questions and prints the lines that the program engine writes for them. Then it shows a book that
- * is refused.
+ * questions and prints the lines that the program engine writes for them, and how the chain of one
+ * of them is derived. Then it shows a book that is refused.
  */
 #include <inttypes.h>
 #include <stdio.h>
@@ -51,6 +51,9 @@ static const struct question questions[] = {
 static uint8_t levels[RABBITSTEEL_NAMES_MAX];
 static uint16_t heads[RABBITSTEEL_NAMES_MAX];
 static uint16_t moves[RABBITSTEEL_MOVES_LEN];
+
+/* Memory that suffices for every derivation. */
+static uint8_t steps[RABBITSTEEL_STEPS_LEN];
 
 /* The program's line for a refused book, and the cause in words. */
 static void print_refusal(uint64_t cause, uint64_t value)
@@ -109,9 +112,26 @@ static void ask_all(const uint8_t *book, size_t length)
         print_answer(i, (size_t)names, 3 * (size_t)count, &questions[i]);
 }
 
+/* Prints the steps from the asked role to the chain. */
+static void print_derivation(size_t number, const uint8_t *book, size_t length)
+{
+    const struct question *asked = &questions[number];
+    uint64_t derived, count;
+    uint64_t cause = rabbitsteel_write_derivation(book, length, asked->role, asked->chain,
+                                                  asked->length, steps, sizeof steps, &derived,
+                                                  &count);
+
+    if (cause != RABBITSTEEL_ACCEPTED || !derived)
+        return;
+    for (const uint8_t *step = steps; step < steps + 4 * count; step += 4)
+        printf("%zu at %d: %srule %d\n", number, step[0] + 256 * step[1],
+               step[3] ? "inverse of " : "", step[2]);
+}
+
 int main(void)
 {
     ask_all(hall, sizeof hall);
+    print_derivation(2, hall, sizeof hall);
     ask_all(circle, sizeof circle);
     return 0;
 }

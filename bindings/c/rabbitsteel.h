@@ -4,8 +4,8 @@
  * Every call returns the number of the cause that refuses its input, or RABBITSTEEL_ACCEPTED. The
  * first cause met, in the order of their numbers, is the whole answer; causes 5 and 6 go rule by
  * rule, and bytes after the last rule come next. What a call has to tell it stores in the numbers
- * lent to it, refused or not: the value beside a cause is a rule number for causes 5 to 8, and 0
- * for every other.
+ * lent to it, refused or not: the value beside a cause is a rule number for causes 5 to 8, a step's
+ * number for cause 17, and 0 for every other.
  *
  * The calls keep no state, allocate nothing and read only the memory lent to them, so several
  * threads may call at once on different memory. What the caller owes:
@@ -27,7 +27,7 @@ extern "C" {
 #endif
 
 /* The largest sizes. Buffers of NAMES_MAX levels, NAMES_MAX heads and MOVES_LEN moves suffice for
-   every book. */
+   every book, and STEPS_LEN bytes for every derivation. */
 #define RABBITSTEEL_BOOK_MAX 2568   /* bytes of a book */
 #define RABBITSTEEL_NAMES_MAX 64    /* names of a book, their levels, and heads of its tables */
 #define RABBITSTEEL_RULES_MAX 256   /* rules of a book */
@@ -35,6 +35,9 @@ extern "C" {
 #define RABBITSTEEL_MOVES_MAX 5120  /* moves of its tables */
 #define RABBITSTEEL_MOVES_LEN 15360 /* numbers of its moves, three to a move: from, label, to */
 #define RABBITSTEEL_CHAIN_MAX 1024  /* links of a chain */
+#define RABBITSTEEL_DERIVED_MAX 16  /* links of a chain whose derivation is written or checked */
+#define RABBITSTEEL_STEPS_MAX 3952  /* steps of a derivation that is written */
+#define RABBITSTEEL_STEPS_LEN 16384 /* bytes to lend for its steps, four to a step */
 
 /* The label of a silent move. Labels below it are role bytes. */
 #define RABBITSTEEL_SILENT 128
@@ -70,7 +73,13 @@ enum rabbitsteel_cause {
                                          or over 15,360 numbers, a state over 2,047, a label over
                                          128 */
     RABBITSTEEL_CAUSE_CHAIN = 13,     /* 0 or over 1,024 links */
-    RABBITSTEEL_CAUSE_ROLE = 14       /* a role, asked or in the chain, of a name without a head */
+    RABBITSTEEL_CAUSE_ROLE = 14,      /* a role, asked or in the chain, of a name that the book or
+                                         the tables do not have */
+
+    /* its derivation */
+    RABBITSTEEL_CAUSE_LONG = 15,      /* over 16 links */
+    RABBITSTEEL_CAUSE_BUFFER = 16,    /* fewer than 16,384 bytes lent for the steps */
+    RABBITSTEEL_CAUSE_STEP = 17       /* bytes not in fours: 0; else the first impossible step */
 };
 
 /* A cause in words. */
@@ -92,7 +101,10 @@ static inline const char *rabbitsteel_words(uint64_t cause)
     case RABBITSTEEL_CAUSE_SHORT: return "heads or moves lent too short";
     case RABBITSTEEL_CAUSE_TABLES: return "the tables are out of bounds";
     case RABBITSTEEL_CAUSE_CHAIN: return "the chain has 0 or over 1,024 links";
-    case RABBITSTEEL_CAUSE_ROLE: return "a role of a name that the tables do not have";
+    case RABBITSTEEL_CAUSE_ROLE: return "a role of a name that the book or the tables do not have";
+    case RABBITSTEEL_CAUSE_LONG: return "the chain has over 16 links";
+    case RABBITSTEEL_CAUSE_BUFFER: return "fewer than 16,384 bytes lent for the steps";
+    case RABBITSTEEL_CAUSE_STEP: return "steps not in fours of bytes, or an impossible step";
     default: return "no cause has this number";
     }
 }
@@ -153,6 +165,35 @@ uint64_t rabbitsteel_ask(const uint16_t *heads, size_t heads_len, const uint16_t
 uint64_t rabbitsteel_derived(const uint8_t *book, size_t book_len, uint16_t *heads,
                              size_t heads_len, uint16_t *moves, size_t moves_len, uint8_t role,
                              const uint8_t *chain, size_t chain_len, uint64_t *answer);
+
+/*
+ * Writes a derivation of the chain from the role, for books with an order and any number of states:
+ * causes 1 to 8 and 13 to 16. A step has four bytes: its place in the present chain, counted from
+ * 0, low byte first; the number of a rule; 0 where its right role is replaced by its left side, or
+ * 1 where this is done with its inverse. The first step is taken on the asked role alone, and the
+ * last leads to the chain. Which of the chain's derivations is written is left open.
+ * Accepted: *first is 1 where the book's rules derive the chain and 0 elsewhere, *second the number
+ * of steps, at most RABBITSTEEL_STEPS_MAX, or 0. The first 4 * *second bytes of steps are written;
+ * the bytes after them keep their values. Where the chain is not derived, steps are unchanged.
+ * Refused: *first is the value beside the cause, *second is 0; steps are unchanged.
+ * RABBITSTEEL_STEPS_LEN bytes have to be lent, whatever the answer.
+ */
+uint64_t rabbitsteel_write_derivation(const uint8_t *book, size_t book_len, uint8_t role,
+                                      const uint8_t *chain, size_t chain_len, uint8_t *steps,
+                                      size_t steps_len, uint64_t *first, uint64_t *second);
+
+/*
+ * Checks any number of steps, written by whomever: causes 1 to 8, 13 to 15 and 17. A step is
+ * impossible if there is no such place or rule, its last byte is over 1, the link at its place is
+ * not the right role of that rule or inverse, or the chain would get over 16 links.
+ * Accepted: *answer is 1 where the steps lead from the role to the chain, and 0 where they end
+ * elsewhere.
+ * Refused: *answer is the value beside the cause, for 17 the number of the first impossible step,
+ * counted from 0, which may have 64 bits.
+ */
+uint64_t rabbitsteel_check_derivation(const uint8_t *book, size_t book_len, uint8_t role,
+                                      const uint8_t *chain, size_t chain_len, const uint8_t *steps,
+                                      size_t steps_len, uint64_t *answer);
 
 #ifdef __cplusplus
 }

@@ -24,6 +24,12 @@ static uint64_t (*const call_ask)(const uint16_t *, size_t, const uint16_t *, si
 static uint64_t (*const call_derived)(const uint8_t *, size_t, uint16_t *, size_t, uint16_t *,
                                       size_t, uint8_t, const uint8_t *, size_t,
                                       uint64_t *) = rabbitsteel_derived;
+static uint64_t (*const call_write)(const uint8_t *, size_t, uint8_t, const uint8_t *, size_t,
+                                    uint8_t *, size_t, uint64_t *,
+                                    uint64_t *) = rabbitsteel_write_derivation;
+static uint64_t (*const call_check)(const uint8_t *, size_t, uint8_t, const uint8_t *, size_t,
+                                    const uint8_t *, size_t,
+                                    uint64_t *) = rabbitsteel_check_derivation;
 static const char *(*const call_words)(uint64_t) = rabbitsteel_words;
 
 /* The same as they stand in the header: two parameters of one type are told apart by name alone. */
@@ -38,6 +44,12 @@ static const char *const prototypes[] = {
     "uint64_t rabbitsteel_derived(const uint8_t *book, size_t book_len, uint16_t *heads, "
     "size_t heads_len, uint16_t *moves, size_t moves_len, uint8_t role, "
     "const uint8_t *chain, size_t chain_len, uint64_t *answer);",
+    "uint64_t rabbitsteel_write_derivation(const uint8_t *book, size_t book_len, uint8_t role, "
+    "const uint8_t *chain, size_t chain_len, uint8_t *steps, size_t steps_len, uint64_t *first, "
+    "uint64_t *second);",
+    "uint64_t rabbitsteel_check_derivation(const uint8_t *book, size_t book_len, uint8_t role, "
+    "const uint8_t *chain, size_t chain_len, const uint8_t *steps, size_t steps_len, "
+    "uint64_t *answer);",
 };
 
 static unsigned checks, failures;
@@ -79,6 +91,9 @@ static void try_constants(void)
     NUMBER(RABBITSTEEL_MOVES_MAX, 5120);
     NUMBER(RABBITSTEEL_MOVES_LEN, 15360);
     NUMBER(RABBITSTEEL_CHAIN_MAX, 1024);
+    NUMBER(RABBITSTEEL_DERIVED_MAX, 16);
+    NUMBER(RABBITSTEEL_STEPS_MAX, 3952);
+    NUMBER(RABBITSTEEL_STEPS_LEN, 16384);
     NUMBER(RABBITSTEEL_SILENT, 128);
     NUMBER(RABBITSTEEL_ACCEPTED, 0);
     NUMBER(RABBITSTEEL_CAUSE_SIZE, 1);
@@ -95,6 +110,9 @@ static void try_constants(void)
     NUMBER(RABBITSTEEL_CAUSE_TABLES, 12);
     NUMBER(RABBITSTEEL_CAUSE_CHAIN, 13);
     NUMBER(RABBITSTEEL_CAUSE_ROLE, 14);
+    NUMBER(RABBITSTEEL_CAUSE_LONG, 15);
+    NUMBER(RABBITSTEEL_CAUSE_BUFFER, 16);
+    NUMBER(RABBITSTEEL_CAUSE_STEP, 17);
 }
 
 /* Role bytes of all names, there and back. */
@@ -129,8 +147,11 @@ static void try_words(void)
     TEXT(call_words(11), "heads or moves lent too short");
     TEXT(call_words(12), "the tables are out of bounds");
     TEXT(call_words(13), "the chain has 0 or over 1,024 links");
-    TEXT(call_words(14), "a role of a name that the tables do not have");
-    TEXT(call_words(15), "no cause has this number");
+    TEXT(call_words(14), "a role of a name that the book or the tables do not have");
+    TEXT(call_words(15), "the chain has over 16 links");
+    TEXT(call_words(16), "fewer than 16,384 bytes lent for the steps");
+    TEXT(call_words(17), "steps not in fours of bytes, or an impossible step");
+    TEXT(call_words(18), "no cause has this number");
     TEXT(call_words(UINT64_MAX), "no cause has this number");
 }
 
@@ -150,19 +171,21 @@ static const uint16_t hall_moves[54] = {
 #define NOISE(place) ((uint16_t)(0x8000u + (place)))
 #define NOISE_BYTE(place) ((uint8_t)(0x80u + (place)))
 
-enum { FENCE = 8, LEVELS = 70, HEADS = 70, MOVES = 15366 };
+enum { FENCE = 8, LEVELS = 70, HEADS = 70, MOVES = 15366, STEPS = 16390 };
 
-/* Numbers, levels and tables lent to a call, each with a fence before and after it. */
+/* Numbers, levels, tables and steps lent to a call, each with a fence before and after it. */
 static uint64_t numbers[7];
 static uint8_t levels[FENCE + LEVELS + FENCE];
 static uint16_t heads[FENCE + HEADS + FENCE];
 static uint16_t moves[FENCE + MOVES + FENCE];
+static uint8_t steps[FENCE + STEPS + FENCE];
 static uint64_t *const first = numbers + 1;
 static uint64_t *const second = numbers + 3;
 static uint64_t *const third = numbers + 5;
 static uint8_t *const lent_levels = levels + FENCE;
 static uint16_t *const lent_heads = heads + FENCE;
 static uint16_t *const lent_moves = moves + FENCE;
+static uint8_t *const lent_steps = steps + FENCE;
 
 static void clear(void)
 {
@@ -174,6 +197,8 @@ static void clear(void)
         heads[i] = NOISE(i);
     for (size_t i = 0; i < sizeof moves / sizeof moves[0]; i++)
         moves[i] = NOISE(i);
+    for (size_t i = 0; i < sizeof steps; i++)
+        steps[i] = NOISE_BYTE(i);
 }
 
 /* Whether memory holds these numbers where it was lent, and what it held everywhere else. */
@@ -194,15 +219,27 @@ static int tables_hold(size_t heads_count, size_t moves_count)
            holds(moves, sizeof moves / sizeof moves[0], hall_moves, moves_count);
 }
 
-/* Whether the first so many levels are these, and all else is kept. */
-static int levels_hold(const uint8_t *written, size_t count)
+/* As holds, for bytes. */
+static int bytes_hold(const uint8_t *memory, size_t length, const uint8_t *written, size_t count)
 {
-    for (size_t i = 0; i < sizeof levels; i++) {
+    for (size_t i = 0; i < length; i++) {
         int inside = i >= FENCE && i - FENCE < count;
-        if (levels[i] != (inside ? written[i - FENCE] : NOISE_BYTE(i)))
+        if (memory[i] != (inside ? written[i - FENCE] : NOISE_BYTE(i)))
             return 0;
     }
     return 1;
+}
+
+/* Whether the first so many levels are these, and all else is kept. */
+static int levels_hold(const uint8_t *written, size_t count)
+{
+    return bytes_hold(levels, sizeof levels, written, count);
+}
+
+/* Whether the first bytes of the steps are these, and all else is kept. */
+static int steps_hold(const uint8_t *written, size_t count)
+{
+    return bytes_hold(steps, sizeof steps, written, count);
 }
 
 /* What a call returned and stored; nothing around the stored numbers is touched. */
@@ -265,6 +302,21 @@ static void try_not_built(const struct refused_book *book)
     check(tables_hold(0, 0), "a refused build and question changes the tables", book->line);
 }
 
+/* A book that has no order, and so no derivations, whatever is asked. */
+static void try_not_derived(const struct refused_book *book)
+{
+    clear();
+    told(call_write(book->bytes, book->length, 255, book->bytes, 0, lent_steps, 0, first, second),
+         book->cause, book->value, 0, UNSET, book->line);
+    told(call_write(book->bytes, book->length, 0, (const uint8_t[]){0}, 1, lent_steps, 16384, first,
+                    second),
+         book->cause, book->value, 0, UNSET, book->line);
+    check(steps_hold(NULL, 0), "a refused derivation changes the steps", book->line);
+    clear();
+    told(call_check(book->bytes, book->length, 255, book->bytes, 0, book->bytes, 1, first),
+         book->cause, book->value, UNSET, UNSET, book->line);
+}
+
 /* A book that has no order, and so no tables. It cannot be read, or has so many names and rules. */
 static void try_refused(const struct refused_book *book, uint64_t names, uint64_t rules)
 {
@@ -282,6 +334,7 @@ static void try_refused(const struct refused_book *book, uint64_t names, uint64_
         check(levels_hold(NULL, 0), "a refused order check changes the levels", book->line);
     }
     try_not_built(book);
+    try_not_derived(book);
 }
 
 #define NOT_BUILT(bytes, length, cause, value)                                                     \
@@ -326,11 +379,11 @@ static void try_refused_books(void)
     REFUSED(itself, sizeof itself, 8, 0, 3, 1);
 }
 
-/* Tables of too many states: each name has eight copies of the one before it. The book has levels.
-   No book is refused by cause 10: 2,048 states have at most 5,120 moves. */
+/* Tables of too many states: each name has eight copies of the one before it. The book has levels and
+   derivations. No book is refused by cause 10: 2,048 states have at most 5,120 moves. */
 static void try_large_book(void)
 {
-    static const uint8_t large_levels[] = {1, 2, 3, 4, 5};
+    static const uint8_t large_levels[] = {1, 2, 3, 4, 5}, eight[] = {6, 6, 6, 6, 6, 6, 6, 6};
     uint8_t large[8 + 4 * 10] = {'R', 'L', 'B', 1, 0, 5, 4, 0};
 
     for (uint8_t rule = 0; rule < 4; rule++) {
@@ -340,6 +393,12 @@ static void try_large_book(void)
     }
     ORDERED(large, sizeof large, 5, 4, 5, large_levels);
     NOT_BUILT(large, sizeof large, 9, 0);
+    clear();
+    told(call_write(large, sizeof large, 8, eight, 8, lent_steps, 16384, first, second), 0, 1, 1,
+         UNSET, __LINE__);
+    CHECK(steps_hold((const uint8_t[]){0, 0, 3, 0}, 4));
+    told(call_check(large, sizeof large, 8, eight, 8, lent_steps, 4, first), 0, 1, 1, UNSET,
+         __LINE__);
 }
 
 /* Books whose levels tell rules of a name from those of its inverse, and inner names from others:
@@ -497,6 +556,128 @@ static void try_tables(void)
     ASK(none, 1, label, 3, 12, 0);
 }
 
+struct derivation {
+    uint8_t role;
+    const uint8_t *chain;
+    size_t length;
+    uint64_t cause, derived;
+    const uint8_t *steps;
+    size_t count;
+};
+
+/* Derivations of the hall book that are the only ones, and what is asked in vain. */
+static void try_written(void)
+{
+    static const uint8_t parts[1025];
+    const struct derivation asked[] = {
+        {6, (const uint8_t[]){2, 4}, 2, 0, 1, (const uint8_t[]){0, 0, 2, 0}, 1},
+        {7, (const uint8_t[]){5, 3, 1}, 3, 0, 1, (const uint8_t[]){0, 0, 2, 1, 1, 0, 1, 1}, 2},
+        {6, (const uint8_t[]){6}, 1, 0, 1, NULL, 0},
+        {6, (const uint8_t[]){2, 0, 4}, 3, 0, 0, NULL, 0},
+        {2, parts, 16, 0, 0, NULL, 0},
+        {8, parts, 0, 13, 0, NULL, 0},
+        {8, parts, 1025, 13, 0, NULL, 0},
+        {8, parts, 17, 14, 0, NULL, 0},
+        {0, (const uint8_t[]){0, 255}, 2, 14, 0, NULL, 0},
+        {0, parts, 17, 15, 0, NULL, 0},
+        {0, parts, 1024, 15, 0, NULL, 0},
+    };
+
+    for (size_t i = 0; i < sizeof asked / sizeof asked[0]; i++) {
+        const struct derivation *d = &asked[i];
+
+        for (size_t lent = 16384; lent <= STEPS; lent += 6) {
+            clear();
+            told(call_write(hall, 20, d->role, d->chain, d->length, lent_steps, lent, first,
+                            second),
+                 d->cause, d->derived, d->count, UNSET, __LINE__);
+            check(steps_hold(d->steps, 4 * d->count), "the steps", __LINE__);
+        }
+        /* A buffer lent too short is refused after the question and before the answer. */
+        for (size_t lent = 0; lent <= 16383; lent += 16383) {
+            clear();
+            told(call_write(hall, 20, d->role, d->chain, d->length, lent_steps, lent, first,
+                            second),
+                 d->cause ? d->cause : 16, 0, 0, UNSET, __LINE__);
+            check(steps_hold(NULL, 0), "a short buffer", __LINE__);
+        }
+        if (d->cause == 0 && !d->derived)
+            continue;
+        clear();
+        told(call_check(hall, 20, d->role, d->chain, d->length, d->count ? d->steps : hall,
+                        4 * d->count, first),
+             d->cause, d->cause ? 0 : 1, UNSET, UNSET, __LINE__);
+    }
+}
+
+/* What is written of a chain with several derivations is one of them. */
+static void try_written_and_checked(void)
+{
+    static const uint8_t parts[16];
+    static uint8_t written[4 * 15];
+
+    clear();
+    told(call_write(hall, 20, 0, parts, 16, lent_steps, 16384, first, second), 0, 1, 15, UNSET,
+         __LINE__);
+    memcpy(written, lent_steps, sizeof written);
+    CHECK(steps_hold(written, sizeof written));
+    clear();
+    told(call_check(hall, 20, 0, parts, 16, written, sizeof written, first), 0, 1, UNSET, UNSET,
+         __LINE__);
+}
+
+/* Steps put to the checker for a chain: the cause and the answer, or the value beside the cause. */
+static void try_check(const uint8_t *book, size_t book_len, uint8_t role, const uint8_t *chain,
+                      size_t length, const uint8_t *checked, size_t checked_len, uint64_t cause,
+                      uint64_t answer, int line)
+{
+    clear();
+    told(call_check(book, book_len, role, chain, length, checked, checked_len, first), cause, answer,
+         UNSET, UNSET, line);
+}
+
+#define STEPS_OF_DUE(checked, checked_len, cause, answer)                                          \
+    try_check(hall, 20, 6, due, 3, (const uint8_t[])checked, checked_len, cause, answer, __LINE__)
+#define BYTES(...) {__VA_ARGS__}
+
+/* Steps that lead to part sits let or elsewhere, and steps that are impossible. */
+static void try_checked(void)
+{
+    static const uint8_t due[] = {0, 2, 4};
+
+    STEPS_OF_DUE(BYTES(0, 0, 2, 0, 0, 0, 1, 0), 8, 0, 1);
+    STEPS_OF_DUE(BYTES(0, 0, 2, 0, 0, 0, 1, 0), 4, 0, 0);
+    STEPS_OF_DUE(BYTES(0), 0, 0, 0);
+    STEPS_OF_DUE(BYTES(0, 0, 2, 0, 0, 0, 1, 0, 0, 0, 0, 0), 12, 0, 0);
+    /* no such place, by either byte; no such rule; no such side; another link there */
+    STEPS_OF_DUE(BYTES(0, 0, 2, 0, 2, 0, 1, 0), 8, 17, 1);
+    STEPS_OF_DUE(BYTES(0, 0, 2, 0, 0, 1, 1, 0), 8, 17, 1);
+    STEPS_OF_DUE(BYTES(0, 0, 3, 0, 0, 0, 1, 0), 8, 17, 0);
+    STEPS_OF_DUE(BYTES(0, 0, 2, 2, 0, 0, 1, 0), 8, 17, 0);
+    STEPS_OF_DUE(BYTES(0, 0, 2, 0, 0, 0, 1, 1), 8, 17, 1);
+    STEPS_OF_DUE(BYTES(0, 0, 2, 0, 1, 0, 1, 0), 8, 17, 1);
+    /* bytes not in fours, before any step is looked at */
+    STEPS_OF_DUE(BYTES(0, 0, 2, 0, 0, 0, 1, 0), 7, 17, 0);
+    STEPS_OF_DUE(BYTES(9, 9, 9, 9, 9), 5, 17, 0);
+}
+
+/* Any number of steps: to and fro on a symmetric relation, 80,001 of them; and over 16 links. */
+static void try_many_steps(void)
+{
+    static const uint8_t symmetric[] = {'R', 'L', 'B', 1, 0, 1, 1, 0, 0, 1, 1};
+    static const uint8_t parts[17], same[4 * 16], back[] = {1};
+    static uint8_t many[4 * 80001];
+
+    for (size_t step = 0; step < 80001; step++)
+        many[4 * step + 3] = step % 2;
+    try_check(symmetric, sizeof symmetric, 0, parts, 1, many, 4 * 80000, 0, 1, __LINE__);
+    try_check(symmetric, sizeof symmetric, 0, back, 1, many, 4 * 80001, 0, 1, __LINE__);
+    many[4 * 80000 + 3] = 1;
+    try_check(symmetric, sizeof symmetric, 0, back, 1, many, 4 * 80001, 17, 80000, __LINE__);
+    try_check(hall, 20, 0, parts, 16, same, 4 * 15, 0, 1, __LINE__);
+    try_check(hall, 20, 0, parts, 16, same, 4 * 16, 17, 15, __LINE__);
+}
+
 /* A file's text, or what a program prints, with every run of white space as one space. */
 static char *text_of(FILE *file)
 {
@@ -536,10 +717,10 @@ static void try_header(const char *path)
 
     for (size_t i = 0; i < sizeof prototypes / sizeof prototypes[0]; i++)
         check(times(text, prototypes[i]) == 1, prototypes[i], __LINE__);
-    NUMBER(times(text, "uint64_t rabbitsteel_"), 5);
+    NUMBER(times(text, "uint64_t rabbitsteel_"), 7);
     NUMBER(times(text, "static inline"), 1);
-    NUMBER(times(text, "#define "), 12);
-    NUMBER(times(text, " = "), 15);
+    NUMBER(times(text, "#define "), 15);
+    NUMBER(times(text, " = "), 18);
     if (file)
         fclose(file);
     free(text);
@@ -552,6 +733,7 @@ static void try_example(const char *path)
     char *text = text_of(program);
 
     TEXT(text, "levels 1 2 1 3 book 16 18 3 0 yes 1 no 2 yes 3 refused 13 4 refused 14 "
+               "2 at 0: inverse of rule 2 2 at 1: inverse of rule 1 "
                "book refused 8 1 refused 8: no regular order; rule 1 ");
     CHECK(program && pclose(program) == 0);
     free(text);
@@ -573,6 +755,10 @@ int main(int argc, char **argv)
     try_build();
     try_questions();
     try_tables();
+    try_written();
+    try_written_and_checked();
+    try_checked();
+    try_many_steps();
     try_header(argv[1]);
     try_example(argv[2]);
     printf("C: %u checks, %u failed\n", checks, failures);
