@@ -1,8 +1,8 @@
 //! The worked example: prints the levels of the hall book's names, builds its tables, asks it five
-//! questions and prints the lines that the program `engine` writes for them. Then it shows a book
-//! that is refused.
+//! questions and prints the lines that the program `engine` writes for them, and how the chain of
+//! one of them is derived. Then it shows a book that is refused.
 
-use rabbitsteel::{inverse, order, role, Order, Refusal, Tables};
+use rabbitsteel::{inverse, order, role, Derivation, Order, Refusal, Tables};
 
 const PART: u8 = role(0);
 const SITS: u8 = role(1);
@@ -44,10 +44,23 @@ fn main() {
     }
 }
 
-/// Prints the levels of a book, its line and its answers.
+/// Prints the levels of a book, its line and its answers, and a derivation.
 fn show(book: &[u8]) -> Result<(), Refusal> {
     print_levels(&order(book)?);
     ask_all(&Tables::of(book)?);
+    print_derivation(book, 2)
+}
+
+/// Prints the steps from the role to the chain of a question.
+fn print_derivation(book: &[u8], number: usize) -> Result<(), Refusal> {
+    let (role, chain) = QUESTIONS[number];
+    let Some(derivation) = Derivation::of(book, role, chain)? else {
+        return Ok(());
+    };
+    for step in derivation.steps() {
+        let inverse = if step.inverse { "inverse of " } else { "" };
+        println!("{number} at {}: {inverse}rule {}", step.place, step.rule);
+    }
     Ok(())
 }
 

@@ -2,7 +2,8 @@
 //! numbers mean is left to the callers.
 
 /// What a call returns and stores: the number of the cause or 0, and the numbers lent to it.
-/// The reader stores two numbers and a question one, so the others are 0.
+/// The reader and the writer of derivations store two numbers and a question one, so the others
+/// are 0.
 pub(crate) struct Told {
     pub(crate) cause: u64,
     pub(crate) first: u64,
@@ -58,6 +59,29 @@ unsafe extern "C" {
         role: u8,
         chain: *const u8,
         chain_len: usize,
+        answer: *mut u64,
+    ) -> u64;
+
+    fn rabbitsteel_write_derivation(
+        book: *const u8,
+        book_len: usize,
+        role: u8,
+        chain: *const u8,
+        chain_len: usize,
+        steps: *mut u8,
+        steps_len: usize,
+        first: *mut u64,
+        second: *mut u64,
+    ) -> u64;
+
+    fn rabbitsteel_check_derivation(
+        book: *const u8,
+        book_len: usize,
+        role: u8,
+        chain: *const u8,
+        chain_len: usize,
+        steps: *const u8,
+        steps_len: usize,
         answer: *mut u64,
     ) -> u64;
 }
@@ -167,6 +191,54 @@ pub(crate) fn derived(
             role,
             chain.as_ptr(),
             chain.len(),
+            &mut first,
+        )
+    };
+    Told {
+        cause,
+        first,
+        second: 0,
+        third: 0,
+    }
+}
+
+pub(crate) fn write_derivation(book: &[u8], role: u8, chain: &[u8], steps: &mut [u8]) -> Told {
+    let (mut first, mut second) = (0, 0);
+    // SAFETY: as in `read`; `steps` is borrowed for writing, so it overlaps neither the book nor
+    // the chain.
+    let cause = unsafe {
+        rabbitsteel_write_derivation(
+            book.as_ptr(),
+            book.len(),
+            role,
+            chain.as_ptr(),
+            chain.len(),
+            steps.as_mut_ptr(),
+            steps.len(),
+            &mut first,
+            &mut second,
+        )
+    };
+    Told {
+        cause,
+        first,
+        second,
+        third: 0,
+    }
+}
+
+pub(crate) fn check_derivation(book: &[u8], role: u8, chain: &[u8], steps: &[u8]) -> Told {
+    let mut first = 0;
+    // SAFETY: as in `read`; the call writes the answer alone, and any bytes may stand in the steps.
+    let cause = unsafe {
+        rabbitsteel_check_derivation(
+            book.as_ptr(),
+            book.len(),
+            role,
+            chain.as_ptr(),
+            chain.len(),
+            steps.as_ptr(),
+            steps.len(),
             &mut first,
         )
     };

@@ -2,7 +2,8 @@
 //!
 //! A book holds rules over links, such as "part sits to sits": a part of what sits in a hall sits
 //! there too. The engine reads a book, checks that its rules have a regular order and how deep it
-//! is, builds tables and answers whether a chain of links is derived from a role.
+//! is, builds tables and answers whether a chain of links is derived from a role. It writes down
+//! how a chain is derived, and checks such a derivation.
 //!
 //! A role byte is twice the name, plus 1 for the inverse; [`role`] and [`inverse`] make them. The
 //! calls keep no state and take no more memory than is lent to them, so they may run in several
@@ -11,7 +12,7 @@
 //! # The hall book
 //!
 //! ```
-//! use rabbitsteel::{inverse, order, role, Cause, Counts, Tables};
+//! use rabbitsteel::{inverse, order, role, Cause, Counts, Derivation, Step, Tables};
 //!
 //! const PART: u8 = role(0);
 //! const SITS: u8 = role(1);
@@ -37,6 +38,12 @@
 //! assert!(!tables.ask(DUE, &[SITS, PART, LET])?);
 //! assert!(tables.ask(inverse(DUE), &[inverse(LET), inverse(SITS), inverse(PART)])?);
 //!
+//! // due, by rule 2 sits let, by rule 1 part sits let.
+//! let derivation = Derivation::of(&book, DUE, &[PART, SITS, LET])?.expect("it is derived");
+//! let steps: Vec<Step> = derivation.steps().collect();
+//! assert_eq!(steps[0], Step { place: 0, rule: 2, inverse: false });
+//! assert_eq!(steps[1], Step { place: 0, rule: 1, inverse: false });
+//!
 //! let refusal = tables.ask(DUE, &[]).unwrap_err();
 //! assert_eq!(refusal.cause, Cause::Chain);
 //! assert_eq!(refusal.to_string(), "refused 13: the chain has 0 or over 1,024 links");
@@ -48,9 +55,11 @@
 
 #[allow(unsafe_code)]
 mod calls;
+mod derivation;
 mod refusal;
 mod tables;
 
+pub use derivation::{Derivation, Step};
 pub use refusal::{Cause, Refusal};
 pub use tables::Tables;
 
@@ -70,6 +79,12 @@ pub const MOVES_MAX: usize = 5120;
 pub const MOVES_LEN: usize = 3 * MOVES_MAX;
 /// The most links of a chain.
 pub const CHAIN_MAX: usize = 1024;
+/// The most links of a chain whose derivation is written or checked.
+pub const DERIVED_MAX: usize = 16;
+/// The most steps of a derivation that is written.
+pub const STEPS_MAX: usize = 3952;
+/// So many bytes have to be lent for the steps of a derivation.
+pub const STEPS_LEN: usize = 16384;
 /// The label of a silent move. Labels below it are role bytes.
 pub const SILENT: u16 = 128;
 
@@ -207,6 +222,37 @@ pub fn derived(
     Ok(answer == 1)
 }
 
+/// Writes a derivation of the chain from the role in lent memory: causes 1 to 8 and 13 to 16.
+///
+/// The number of steps, of four bytes each from the first byte on, or none where the chain is not
+/// derived. The bytes after the steps keep their values; where there is no derivation or something
+/// is refused, all do. [`STEPS_LEN`] bytes have to be lent, whatever the answer. [`Derivation`]
+/// does the same with memory of its own.
+pub fn write_derivation(
+    book: &[u8],
+    role: u8,
+    chain: &[u8],
+    steps: &mut [u8],
+) -> Result<Option<usize>, Refusal> {
+    let [derived, count, _] = accepted(calls::write_derivation(book, role, chain, steps))?;
+    Ok((derived == 1).then_some(count))
+}
+
+/// Checks whether steps lead from the role to the chain: causes 1 to 8, 13 to 15 and 17.
+///
+/// The steps may come from anywhere and be any number, as [`Derivation::bytes`] has them. A step
+/// is impossible if there is no such place or rule, its last byte is over 1, the link at its place
+/// is not the right role of that rule or inverse, or the chain would get over [`DERIVED_MAX`] links.
+pub fn check_derivation(
+    book: &[u8],
+    role: u8,
+    chain: &[u8],
+    steps: &[u8],
+) -> Result<bool, Refusal> {
+    let [answer, ..] = accepted(calls::check_derivation(book, role, chain, steps))?;
+    Ok(answer == 1)
+}
+
 /// The numbers that a call stored, or why it refuses.
 fn accepted(told: Told) -> Result<[usize; 3], Refusal> {
     let first = size(told.first);
@@ -220,7 +266,7 @@ fn accepted(told: Told) -> Result<[usize; 3], Refusal> {
     })
 }
 
-/// A count or a rule number, none of which is over 15,360.
+/// A count of at most 15,360, or the number of a rule or of a step that was lent.
 fn size(number: u64) -> usize {
-    usize::try_from(number).expect("the archive gives small numbers")
+    usize::try_from(number).expect("the archive counts what is in memory")
 }

@@ -1,9 +1,10 @@
-//! Why an input is refused: document 01's causes, their numbers and the value beside each.
+//! Why an input is refused: the causes of documents 01 and 02, their numbers and the value beside
+//! each.
 
 use std::error::Error;
 use std::fmt;
 
-/// Why a book, the memory lent for its tables, or a question is refused.
+/// Why a book, the memory lent for its tables, a question or a derivation is refused.
 ///
 /// The first cause met, in the order of their numbers, is the whole answer; [`Malformed`] and
 /// [`Undeclared`] go rule by rule, and bytes after the last rule come next.
@@ -43,13 +44,20 @@ pub enum Cause {
     Tables = 12,
     /// The chain has 0 or over 1,024 links.
     Chain = 13,
-    /// A role, asked or in the chain, has a name without a head.
+    /// A role, asked or in the chain, has a name that the book or the tables do not have.
     Role = 14,
+    /// The chain has over 16 links, where a derivation is asked for.
+    Long = 15,
+    /// Fewer than 16,384 bytes are lent for the steps of a derivation.
+    Buffer = 16,
+    /// The steps of a derivation are not in fours of bytes: the value is 0. Or a step is
+    /// impossible: the value is the number of the first such.
+    Step = 17,
 }
 
 impl Cause {
     /// All causes, in the order of their numbers.
-    pub const ALL: [Cause; 14] = [
+    pub const ALL: [Cause; 17] = [
         Cause::Size,
         Cause::Mark,
         Cause::Version,
@@ -64,9 +72,12 @@ impl Cause {
         Cause::Tables,
         Cause::Chain,
         Cause::Role,
+        Cause::Long,
+        Cause::Buffer,
+        Cause::Step,
     ];
 
-    /// Document 01's number of the cause, 1 to 14.
+    /// The number of the cause, 1 to 17.
     pub const fn number(self) -> u8 {
         self as u8
     }
@@ -97,12 +108,16 @@ impl fmt::Display for Cause {
             Cause::Short => "heads or moves lent too short",
             Cause::Tables => "the tables are out of bounds",
             Cause::Chain => "the chain has 0 or over 1,024 links",
-            Cause::Role => "a role of a name that the tables do not have",
+            Cause::Role => "a role of a name that the book or the tables do not have",
+            Cause::Long => "the chain has over 16 links",
+            Cause::Buffer => "fewer than 16,384 bytes lent for the steps",
+            Cause::Step => "steps not in fours of bytes, or an impossible step",
         })
     }
 }
 
-/// A cause and the value beside it: a rule number for causes 5 to 8, and 0 for every other.
+/// A cause and the value beside it: a rule number for causes 5 to 8, a step's number for cause 17,
+/// and 0 for every other.
 #[derive(Debug, Clone, Copy, PartialEq, Eq, Hash)]
 pub struct Refusal {
     /// Why the input is refused.
@@ -120,6 +135,7 @@ impl fmt::Display for Refusal {
             Cause::Undeclared => write!(f, "; in rule {value}"),
             Cause::Repeated => write!(f, "; rule {value} is the lowest that does"),
             Cause::NoOrder => write!(f, "; rule {value} ends the shortest front part without one"),
+            Cause::Step => write!(f, "; step {value}"),
             _ => Ok(()),
         }
     }

@@ -10,6 +10,8 @@ book 16 18 3
 2 yes
 3 refused 13
 4 refused 14
+2 at 0: inverse of rule 2
+2 at 1: inverse of rule 1
 book refused 8 1
 refused 8: no regular order; rule 1 ends the shortest front part without one
 ";

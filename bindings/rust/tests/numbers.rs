@@ -1,8 +1,8 @@
 //! The package's constants, role bytes, numbers of causes and words, against what is written out here.
 
 use rabbitsteel::{
-    inverse, role, Cause, Counts, Refusal, BOOK_MAX, CHAIN_MAX, MOVES_LEN, MOVES_MAX, NAMES_MAX,
-    RULES_MAX, SILENT, STATES_MAX,
+    inverse, role, Cause, Counts, Refusal, BOOK_MAX, CHAIN_MAX, DERIVED_MAX, MOVES_LEN, MOVES_MAX,
+    NAMES_MAX, RULES_MAX, SILENT, STATES_MAX, STEPS_LEN, STEPS_MAX,
 };
 
 #[test]
@@ -11,6 +11,7 @@ fn largest_sizes() {
         BOOK_MAX, NAMES_MAX, RULES_MAX, STATES_MAX, MOVES_MAX, MOVES_LEN, CHAIN_MAX,
     ];
     assert_eq!(sizes, [2568, 64, 256, 2048, 5120, 15360, 1024]);
+    assert_eq!([DERIVED_MAX, STEPS_MAX, STEPS_LEN], [16, 3952, 16384]);
     assert_eq!(SILENT, 128u16);
 }
 
@@ -45,7 +46,7 @@ fn numbers_to_moves() {
 
 /// Each cause with its number, its words, and what a refusal by it with the value 7 says.
 #[rustfmt::skip]
-const CAUSES: [(Cause, u8, &str, &str); 14] = [
+const CAUSES: [(Cause, u8, &str, &str); 17] = [
     (Cause::Size, 1, "the book has fewer than 8 or more than 2,568 bytes", ""),
     (Cause::Mark, 2, "the book does not begin with the mark RLB", ""),
     (Cause::Version, 3, "the version is not 1", ""),
@@ -59,7 +60,10 @@ const CAUSES: [(Cause, u8, &str, &str); 14] = [
     (Cause::Short, 11, "heads or moves lent too short", ""),
     (Cause::Tables, 12, "the tables are out of bounds", ""),
     (Cause::Chain, 13, "the chain has 0 or over 1,024 links", ""),
-    (Cause::Role, 14, "a role of a name that the tables do not have", ""),
+    (Cause::Role, 14, "a role of a name that the book or the tables do not have", ""),
+    (Cause::Long, 15, "the chain has over 16 links", ""),
+    (Cause::Buffer, 16, "fewer than 16,384 bytes lent for the steps", ""),
+    (Cause::Step, 17, "steps not in fours of bytes, or an impossible step", "; step 7"),
 ];
 
 #[test]
