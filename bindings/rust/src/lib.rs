@@ -242,7 +242,8 @@ pub fn write_derivation(
 ///
 /// The steps may come from anywhere and be any number, as [`Derivation::bytes`] has them. A step
 /// is impossible if there is no such place or rule, its last byte is over 1, the link at its place
-/// is not the right role of that rule or inverse, or the chain would get over [`DERIVED_MAX`] links.
+/// is not the right role of that rule or inverse, or the chain would get over [`DERIVED_MAX`]
+/// links.
 pub fn check_derivation(
     book: &[u8],
     role: u8,
