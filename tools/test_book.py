@@ -1,6 +1,7 @@
-"""Tests of tools/book: the text form, book.rlb, OWL and questions. Run: python3 tools/test_book.py
+"""Tests of tools/book: the text form, book.rlb, OWL, questions and derivations. Run: python3 tools/test_book.py
 
-Questions are put to the real engine (RABBITSTEEL_ENGINE, else target/bin/engine); without it those tests fail.
+Questions are put to the real engine (RABBITSTEEL_ENGINE, else target/bin/engine) and to the real archive
+(RABBITSTEEL_LIB_DIR, else target/staticlib); without them those tests fail.
 """
 
 import contextlib
@@ -21,14 +22,16 @@ from unittest import mock
 TOOLS = Path(__file__).resolve().parent
 sys.path.insert(0, str(TOOLS))
 
-from booktext import engine, file_format, owl_reader, owl_writer, text_form  # noqa: E402
+from booktext import derivations, engine, file_format, owl_reader, owl_writer, text_form  # noqa: E402
 from booktext.causes import WORDS, Refusal, book_words  # noqa: E402
 from booktext.command_line import main  # noqa: E402
 from booktext.commands import answer_words  # noqa: E402
 from booktext.faults import Fault  # noqa: E402
 from booktext.model import Book, Role, Rule  # noqa: E402
 from booktext.names import generated, trouble  # noqa: E402
+from booktext.questions import Question  # noqa: E402
 from booktext.source import Source  # noqa: E402
+from rabbitsteel import Refused, Step, archive  # noqa: E402
 
 HALL_TEXT = """\
 # The hall book.
@@ -43,6 +46,8 @@ HALL_BARE = "names part sits let due\n\npart part -> part\npart sits -> sits\nsi
 
 ENGINE = Path(os.environ.get(engine.VARIABLE) or engine.BUILT).resolve()
 NO_ENGINE = f"no engine at {ENGINE}, so no question can be put to it: run `rt check engine` first"
+
+ARCHIVE = Path(os.environ.get(archive.VARIABLE) or archive.REPOSITORY / "target" / "staticlib").resolve()
 
 # What the tool says of each cause.
 CAUSES = {
@@ -59,7 +64,10 @@ CAUSES = {
     11: "the memory lent for the tables is too short",
     12: "the tables are out of bounds",
     13: "the chain has no link or more than 1,024",
-    14: "a role that the tables do not have",
+    14: "a role that the book or the tables do not have",
+    15: "the chain has more than 16 links",
+    16: "the memory lent for the steps is too short",
+    17: "the steps are not in fours of bytes, or one is impossible",
 }
 
 
@@ -87,7 +95,7 @@ class InFolder(unittest.TestCase):
         self.addCleanup(folder.cleanup)
         self.addCleanup(os.chdir, os.getcwd())
         os.chdir(folder.name)
-        named = mock.patch.dict(os.environ, {engine.VARIABLE: str(ENGINE)})
+        named = mock.patch.dict(os.environ, {engine.VARIABLE: str(ENGINE), archive.VARIABLE: str(ARCHIVE)})
         named.start()
         self.addCleanup(named.stop)
 
@@ -316,7 +324,7 @@ class Causes(unittest.TestCase):
                 self.assertEqual(book_words(Refusal(cause, 1), rules), words + named)
 
     def test_refused_questions(self) -> None:
-        for cause in (12, 13, 14):
+        for cause in (12, 13, 14, 15):
             self.assertEqual(answer_words(Refusal(cause)), f"refused {cause}: {CAUSES[cause]}")
 
 
@@ -688,6 +696,114 @@ class Ask(WithEngine):
             self.assertEqual(engine.ask(ENGINE, file_format.encode(book), []).refusal, Refusal(8, 1))
 
 
+# How a chain is derived: the question, the rules, and what is shown.
+WHYS = [
+    ("due: sits let", "", "  due\n  [sits let]  by rule 2, sits let -> due\n"),
+    (
+        "inv due: inv let inv sits inv part",
+        "",
+        "  inv due\n"
+        "  [inv let inv sits]           by inverse of rule 2, sits let -> due\n"
+        "  inv let [inv sits inv part]  by inverse of rule 1, part sits -> sits\n",
+    ),
+    ("due: due", "", "  due\n"),
+    (
+        "inv due: sits part",
+        "inv part inv sits -> due\n",
+        "  inv due\n  [sits part]  by inverse of rule 3, inv part inv sits -> due\n",
+    ),
+]
+
+
+class Why(InFolder):
+    """Each test asks the real archive."""
+
+    def why(self, *arguments: str, stdin: str = "") -> Run:
+        return run("why", *arguments, stdin=stdin)
+
+    def test_derivations_that_are_the_only_ones(self) -> None:
+        for question, rules, shown in WHYS:
+            with self.subTest(question):
+                self.write("hall.txt", HALL_TEXT + rules)
+                self.assertEqual(self.why("hall.txt", question), (0, f"{question}: yes\n{shown}", ""))
+
+    def test_one_of_many(self) -> None:
+        self.write("hall.txt", HALL_TEXT)
+        told = self.why("hall.txt", "due: part part sits let")
+        lines = told.output.splitlines()
+        self.assertEqual(lines[:2], ["due: part part sits let: yes", "  due"])
+        chains = [line.partition("  by ")[0].strip().replace("[", "").replace("]", "") for line in lines[1:]]
+        self.assertEqual(chains, ["due", "sits let", "part sits let", "part part sits let"])
+        self.assertEqual((told.status, told.errors), (0, ""))
+
+    def test_no(self) -> None:
+        self.write("hall.txt", HALL_TEXT)
+        self.assertEqual(self.why("hall.txt", "due: sits part let"), (0, "due: sits part let: no\n", ""))
+
+    def test_refused_questions(self) -> None:
+        self.write("hall.txt", HALL_TEXT)
+        for links, cause in [(0, 13), (17, 15), (1024, 15), (1025, 13)]:
+            question = f"part: {'part ' * links}".strip()
+            told = self.why("hall.txt", question, "due: let")
+            self.assertEqual((told.status, told.errors), (1, ""))
+            first, second = told.output.splitlines()
+            self.assertEqual(first.rpartition(": refused")[2], f" {cause}: {CAUSES[cause]}")
+            self.assertEqual(second, "due: let: no")
+        self.assertEqual(self.why("hall.txt", f"part: {'part ' * 16}").status, 0)
+
+    def test_refused_books(self) -> None:
+        for rules, told in [
+            ("r -> r\n", f"8 0: {CAUSES[8]}: rule 0, r -> r"),
+            ("s -> r\nr -> s\n", f"8 1: {CAUSES[8]}: rule 1, r -> s"),
+            ("inv r -> r\nr -> inv r\n", f"7 1: {CAUSES[7]}: rule 1, r -> inv r"),
+        ]:
+            self.write("b.txt", f"names r s\n{rules}")
+            self.assertEqual(self.why("b.txt", "r: s", "r: r"), (1, f"book refused {told}\n", ""))
+
+    def test_books_that_are_too_large_for_tables(self) -> None:
+        large = "".join(f"{left} " * 8 + f"-> {right}\n" for left, right in ("rs", "st", "tu", "uv"))
+        self.write("b.txt", f"names r s t u v\n{large}")
+        told = self.why("b.txt", "v:" + " u" * 8)
+        self.assertEqual((told.status, len(told.output.splitlines())), (0, 3))
+
+    def test_bytes(self) -> None:
+        self.write("book.txt", HALL_TEXT)
+        Path("book.rlb").write_bytes(HALL_BYTES)
+        Path("other.rlb").write_bytes(HALL_BYTES)
+        for book in (".", "book.rlb", "book.txt"):
+            self.assertEqual(self.why(book, "due: sits let"), (0, f"due: sits let: yes\n{WHYS[0][2]}", ""))
+        unnamed = "r3: r1 r2: yes\n  r3\n  [r1 r2]  by rule 2, r1 r2 -> r3\n"
+        self.assertEqual(self.why("other.rlb", "r3: r1 r2"), (0, unnamed, ""))
+
+    def test_damaged_bytes(self) -> None:
+        for data, cause, value in DAMAGED:
+            Path("book.rlb").write_bytes(data)
+            refused = f"book refused {cause} {value}: {damage(cause, value)}\n"
+            self.assertEqual(self.why("book.rlb", "a: b"), (1, refused, ""))
+
+    def test_standard_input_and_wrong_questions(self) -> None:
+        self.write("hall.txt", HALL_TEXT)
+        told = self.why("hall.txt", stdin="due: let\ndue: lit\nsits: let\n")
+        self.assertEqual(told, (1, "due: let: no\nsits: let: no\n", "stdin:2:6: unknown name 'lit'\n"))
+
+    def test_no_archive(self) -> None:
+        self.write("hall.txt", HALL_TEXT)
+        environment = {**os.environ, archive.VARIABLE: "/none"}
+        command = [TOOLS / "book", "why", "hall.txt", "due: due"]
+        told = subprocess.run(command, env=environment, capture_output=True, text=True, check=False)
+        self.assertEqual((told.returncode, told.stdout), (1, ""))
+        self.assertIn("/none/librabbitsteel.a: no archive here; make it with `rt staticlib rabbitsteel`", told.stderr)
+
+    def test_only_what_the_checker_accepts_is_shown(self) -> None:
+        names = ("part", "sits", "let", "due")
+        question = Question(Role("due"), (Role("sits"), Role("let")))
+        with mock.patch.object(derivations.rabbitsteel, "check_derivation", return_value=False):
+            self.assertRaisesRegex(Fault, "does not accept", derivations.explain, HALL_BYTES, names, question)
+        with mock.patch.object(derivations.rabbitsteel, "check_derivation", side_effect=Refused(17, 3)):
+            self.assertEqual(derivations.explain(HALL_BYTES, names, question).answer, Refusal(17, 3))
+        self.assertEqual(derivations.explain(HALL_BYTES, names, question), ("yes", (Step(0, 2, False),)))
+
+
 class Page(WithEngine):
     """docs/TEXT-FORM.md shows what is really written."""
 
@@ -760,6 +876,9 @@ RUNS = [
     (["ask", "hall.txt", "due: due", "due:"], 1, f"due: due: yes\ndue: (no link): refused 13: {CAUSES[13]}\n", ""),
     (["ask", "hall.txt", "due: lit"], 1, "", "question:1:6: unknown name 'lit'\n"),
     (["ask", "circle.txt", "a: b"], 1, f"book refused 8 1: {CAUSES[8]}: rule 1, b -> a\n", ""),
+    (["why", "hall.txt", "due: sits let", "due: let"], 0, f"due: sits let: yes\n{WHYS[0][2]}due: let: no\n", ""),
+    (["why", "hall.txt", "due:"], 1, f"due: (no link): refused 13: {CAUSES[13]}\n", ""),
+    (["why", "circle.txt", "a: b"], 1, f"book refused 8 1: {CAUSES[8]}: rule 1, b -> a\n", ""),
     (["to-owl", "wrong.txt"], 1, "", "wrong.txt:2:1: unknown name 'b'\n"),
     (["to-owl", "hall.txt", "-o", "hall.ofn"], 0, "", ""),
     (["from-owl", "hall.ofn"], 0, HALL_BARE, ""),
@@ -793,11 +912,12 @@ class ExitStatus(WithEngine):
 class Script(unittest.TestCase):
     def test_help(self) -> None:
         told = subprocess.run([TOOLS / "book", "--help"], capture_output=True, text=True, check=True).stdout
-        for words in ("pack", "unpack", "ask", "from-owl", "to-owl", "examples:"):
+        for words in ("pack", "unpack", "ask", "why", "from-owl", "to-owl", "examples:"):
             self.assertIn(words, told)
 
     def test_wrong_commands(self) -> None:
-        for words in ([], ["fold"], ["pack"], ["pack", "a", "b"], ["ask", "a", "--fast"], ["to-owl", "a", "--skip"]):
+        unknown = ["ask", "a", "--fast"], ["why", "a", "--engine", "b"], ["to-owl", "a", "--skip"]
+        for words in ([], ["fold"], ["pack"], ["why"], ["pack", "a", "b"], *unknown):
             self.assertEqual(self.status(words), 2, words)
 
     def status(self, words: list[str]) -> object:

@@ -1,4 +1,4 @@
-"""The book that questions are about: a text, or a folder with book.rlb and perhaps its text, book.txt."""
+"""The book that questions are about: a text, a file such as book.rlb with perhaps its text beside it, or a folder."""
 
 import sys
 from pathlib import Path
@@ -19,12 +19,14 @@ class AskedBook(NamedTuple):
 
 
 def load(path: str) -> AskedBook:
-    if not Path(path).is_dir():
+    """A folder stands for the book.rlb in it."""
+    file = Path(path, "book.rlb") if Path(path).is_dir() else Path(path)
+    if file.suffix != ".rlb":
         book = text_form.read(read_source(path))
         return AskedBook(encode(book), book)
-    data = read_bytes(str(Path(path, "book.rlb")))
+    data = read_bytes(str(file))
     try:
-        return AskedBook(data, named(Path(path, "book.txt"), data, decode(data)))
+        return AskedBook(data, named(file.with_suffix(".txt"), data, decode(data)))
     except Malformed:
         return AskedBook(data, None)
 
@@ -39,5 +41,6 @@ def named(text: Path, data: bytes, unnamed: Book) -> Book:
             return book
     except Fault:
         pass
-    print(f"{text}: does not pack to book.rlb, so its names are not used; they are r0, r1 ...", file=sys.stderr)
+    packed = text.with_suffix(".rlb").name
+    print(f"{text}: does not pack to {packed}, so its names are not used; they are r0, r1 ...", file=sys.stderr)
     return unnamed

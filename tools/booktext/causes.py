@@ -1,4 +1,4 @@
-"""The causes of refusal, 1 to 14, in words."""
+"""The causes of refusal, 1 to 17, in words."""
 
 from collections.abc import Sequence
 from typing import NamedTuple
@@ -27,7 +27,10 @@ WORDS = {
     11: "the memory lent for the tables is too short",
     12: "the tables are out of bounds",
     13: "the chain has no link or more than 1,024",
-    14: "a role that the tables do not have",
+    14: "a role that the book or the tables do not have",
+    15: "the chain has more than 16 links",
+    16: "the memory lent for the steps is too short",
+    17: "the steps are not in fours of bytes, or one is impossible",
 }
 
 VALUE_IS_RULE = {5, 6, 7, 8}

@@ -10,9 +10,9 @@ from .faults import Fault
 DESCRIPTION = """\
 A book holds rules over relations, such as "what is part of something that
 sits in a hall sits there too". This tool translates a book between readable
-text, the file book.rlb and OWL, and puts questions to the proved engine.
-It only translates: the engine decides every answer, and whether the rules
-are refused."""
+text, the file book.rlb and OWL, puts questions to the proved engine, and
+shows how a chain is derived. It only translates: the engine decides every
+answer, writes and checks every derivation, and says what is refused."""
 
 EXAMPLES = """\
 a book as text, hall.txt:
@@ -27,6 +27,7 @@ examples:
   tools/book ask hall.txt 'due: part part sits let'
   tools/book ask hall.txt 'inv due: inv let inv sits inv part' 'due: sits'
   tools/book ask hall < questions.txt              one question a line
+  tools/book why hall.txt 'due: part part sits let'
   tools/book to-owl hall.txt -o hall.ofn
   tools/book from-owl hall.ofn -o hall.txt
 
@@ -42,6 +43,12 @@ ASK = """\
 Puts questions to the proved engine and shows its answers. A question is
 ROLE: CHAIN, such as 'due: part part sits let': is the chain derived from the
 role? Without a question given, they are read from standard input, one a line."""
+WHY = """\
+Shows how chains are derived. A question is as for `ask`, with at most 16
+links. After a yes come the asked role and a line for each step: the chain
+after it, with brackets around the links that it put in, and its rule. The
+proved archive writes the steps and checks them; `rt staticlib rabbitsteel`
+makes it. Of several derivations one is shown."""
 FROM_OWL = """\
 Turns the role axioms of an OWL 2 ontology in functional-style syntax into
 text. An axiom that a book cannot hold is refused by name."""
@@ -65,10 +72,13 @@ def parser() -> argparse.ArgumentParser:
     unpack.set_defaults(run=commands.unpack)
 
     ask = kinds.add_parser("ask", help="put questions to the engine", description=ASK)
-    ask.add_argument("book", metavar="FOLDER|BOOK.txt", help="a text, or a folder with book.rlb and perhaps book.txt")
-    ask.add_argument("questions", metavar="QUESTION", nargs="*", help="such as 'due: part part sits let'")
+    add_questions(ask)
     ask.add_argument("--engine", metavar="FILE", help=f"the program (default: ${VARIABLE}, else target/bin/engine)")
     ask.set_defaults(run=commands.ask)
+
+    why = kinds.add_parser("why", help="show how chains are derived", description=WHY, formatter_class=raw)
+    add_questions(why)
+    why.set_defaults(run=commands.why)
 
     from_owl = kinds.add_parser("from-owl", help="OWL role axioms to text", description=FROM_OWL)
     from_owl.add_argument("ontology", metavar="ONTOLOGY.ofn")
@@ -81,6 +91,12 @@ def parser() -> argparse.ArgumentParser:
     add_output(to_owl)
     to_owl.set_defaults(run=commands.to_owl)
     return top
+
+
+def add_questions(command: argparse.ArgumentParser) -> None:
+    book = "a text, or book.rlb or its folder, perhaps with book.txt beside it"
+    command.add_argument("book", metavar="BOOK", help=book)
+    command.add_argument("questions", metavar="QUESTION", nargs="*", help="such as 'due: part part sits let'")
 
 
 def add_output(command: argparse.ArgumentParser) -> None:

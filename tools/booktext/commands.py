@@ -5,14 +5,14 @@ from argparse import Namespace
 from collections.abc import Sequence
 from pathlib import Path
 
-from . import engine, owl_reader, owl_writer, text_form
+from . import derivations, engine, owl_reader, owl_writer, text_form
 from .asked_book import AskedBook, load
 from .causes import WORDS, Refusal, book_words
-from .faults import Fault
+from .faults import Fault, Faults
 from .file_format import Malformed, decode, encode
 from .files import read_bytes, read_source, write_bytes
-from .model import Rule
-from .questions import read_questions
+from .model import Book, Rule
+from .questions import Question, read_questions
 from .source import Source
 
 
@@ -54,8 +54,7 @@ def ask(args: Namespace) -> int:
     asked = load(args.book)
     if asked.book is None:
         return ask_damaged(program, asked)
-    source = Source("question", "\n".join(args.questions)) if args.questions else read_source("-")
-    questions, faults = read_questions(source, asked.book.names)
+    questions, faults = given_questions(args, asked.book)
     said = engine.ask(program, asked.data, [question.encoded(asked.book.names) for question in questions])
     if said.refusal:
         tell_refused(said.refusal, asked.book.rules)
@@ -67,6 +66,12 @@ def ask(args: Namespace) -> int:
     return 0 if said.all_answered() else 1
 
 
+def given_questions(args: Namespace, book: Book) -> tuple[list[Question], Faults]:
+    """The questions given as words, or on standard input where there are none."""
+    source = Source("question", "\n".join(args.questions)) if args.questions else read_source("-")
+    return read_questions(source, book.names)
+
+
 def ask_damaged(program: Path, asked: AskedBook) -> int:
     """Bytes in which no book can be read have no names to ask with; the engine still says why."""
     refusal = engine.ask(program, asked.data, []).refusal
@@ -74,6 +79,26 @@ def ask_damaged(program: Path, asked: AskedBook) -> int:
         raise Fault(f"{program}: accepts bytes that are no book")
     tell_refused(refusal, ())
     return 1
+
+
+def why(args: Namespace) -> int:
+    """Shows how the chains are derived, and tells of the questions that cannot be read after that."""
+    asked = load(args.book)
+    refusal = derivations.book_refusal(asked.data)
+    if refusal:
+        tell_refused(refusal, asked.book.rules if asked.book else ())
+        return 1
+    if asked.book is None:
+        raise Fault(f"{args.book}: the archive accepts bytes that are no book")
+    questions, faults = given_questions(args, asked.book)
+    explained = [derivations.explain(asked.data, asked.book.names, question) for question in questions]
+    for question, (answer, steps) in zip(questions, explained):
+        print(f"{question}: {answer_words(answer)}")
+        if answer == "yes":
+            for line in derivations.lines(asked.book, question.role, steps):
+                print(f"  {line}")
+    faults.settle()
+    return 1 if any(isinstance(answer, Refusal) for answer, _ in explained) else 0
 
 
 def tell_refused(refusal: Refusal, rules: Sequence[Rule]) -> None:
