@@ -170,7 +170,7 @@ fn both(role: u8, chain: Vec<u8>, other: Vec<u8>) -> [Question; 2] {
 }
 
 /// The rules of a well-formed book.
-fn rules(book: &[u8]) -> Vec<Axiom> {
+pub fn rules(book: &[u8]) -> Vec<Axiom> {
     let book = plain::book::Book::read(book).expect("the book is well-formed");
     (0..book.rules())
         .map(|number| book.rule(number))

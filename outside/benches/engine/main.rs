@@ -1,7 +1,8 @@
-//! The archive beside the plain engine on the same inputs: reading, order check, building, questions, and a million
-//! questions through the programs. `cargo bench -- --markdown TABLE.md --svg CHART.svg` writes the table and a chart
+//! The archive beside the plain engine on the same inputs: reading, order check, building, questions, derivations, and a
+//! million questions through the programs. `cargo bench -- --markdown TABLE.md --svg CHART.svg` writes the table and a chart
 //! of the ratios; both paths may be left out.
 
+mod derivations;
 mod inputs;
 mod measure;
 mod programs;
@@ -33,6 +34,7 @@ fn main() {
     books(&mut report);
     questions(&mut report);
     whole_way(&mut report);
+    derivations::rows(&mut report);
     re2::rows(&mut report);
     programs::rows(&mut report);
     println!("\n{}", report.markdown());
