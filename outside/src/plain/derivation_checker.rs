@@ -76,13 +76,16 @@ impl Present {
             return None;
         }
         let after = place + rule.left.len();
-        self.links.copy_within(place + 1..self.length, after);
-        self.length = length;
-        let put = &mut self.links[place..after];
-        put.copy_from_slice(rule.left);
-        if side == 1 {
-            put.reverse();
-            put.iter_mut().for_each(|link| *link ^= 1);
+        if length > self.length {
+            self.links.copy_within(place + 1..self.length, after);
+            self.length = length;
+        }
+        let put = self.links[place..after].iter_mut();
+        if side == 0 {
+            put.zip(rule.left).for_each(|(link, role)| *link = *role);
+        } else {
+            let inverse = rule.left.iter().rev();
+            put.zip(inverse).for_each(|(link, role)| *link = role ^ 1);
         }
         Some(())
     }
