@@ -14,7 +14,7 @@
  * - A length counts elements, not bytes.
  * - Memory that a call writes overlaps nothing else that the same call is lent.
  * - Room on the stack: a build or a question takes up to 40 KB of it, rabbitsteel_derived up to
- *   70 KB, a matter only for very small stacks.
+ *   70 KB, rabbitsteel_write_derivation up to 100 KB, a matter only for very small stacks.
  */
 #ifndef RABBITSTEEL_H
 #define RABBITSTEEL_H

@@ -7,7 +7,8 @@
 //!
 //! A role byte is twice the name, plus 1 for the inverse; [`role`] and [`inverse`] make them. The
 //! calls keep no state and take no more memory than is lent to them, so they may run in several
-//! threads at once; a build or a question takes up to 40 KB of the stack, both in one call 70 KB.
+//! threads at once; a build or a question takes up to 40 KB of the stack, both in one call 70 KB,
+//! writing a derivation 100 KB.
 //!
 //! # The hall book
 //!
