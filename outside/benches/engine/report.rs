@@ -19,7 +19,7 @@ const TITLE: &str = "Proved engine beside plain Rust";
 const METHOD: &str = "Times are medians for a call (for the program: for a run) of interleaved samples in one process \
 after a warm-up. The ratio is engine / beside: below 1 the proved engine is faster. The middle half of the samples \
 lies within the spread around each median. `active` is the average number of active states after a link. Lent tables \
-are the same for all calls and are not cleared, except where a row says so.";
+and steps are the same for all calls and are not cleared, except where a row says so.";
 
 impl Report {
     /// Adds a row and prints it at once.
