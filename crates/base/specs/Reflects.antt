@@ -1,6 +1,6 @@
 -- A Boolean that says whether something holds, and one that is the answer to a test, as a negated branch leaves it.
 use mathlib.Core.Bool.{Bool, true, false, not, true≢false, false≢true}
-use mathlib.Core.Path.{_≡_, sym, _∙_}
+use mathlib.Core.Path.{_≡_, refl, sym, _∙_}
 use borrow.Author.Tests.{not-true, not-false}
 
 pub record Reflects (b : Bool) (A : Type 0) : Type 0 where
@@ -13,6 +13,11 @@ module _ (A : Type 0) where
 
   pub decides-no : (A → ⊥) → Reflects false A
   decides-no n = record { holds = λ h. absurd (false≢true h); fails = λ h. n }
+
+-- the Boolean is true where what it says holds
+pub reflected : (b : Bool) {A : Type 0} → Reflects b A → A → b ≡ true
+reflected true d a = refl
+reflected false d a = absurd (d .fails refl a)
 
 module _ (b t : Bool) (answer : b ≡ t) where
   pub test-failed : not b ≡ true → t ≡ false

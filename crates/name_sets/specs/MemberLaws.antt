@@ -47,7 +47,7 @@ has-and a b y =
     (two-bits (λ p q. eqb (bitAnd p q) 1 ≡ (eqb p 1 && eqb q 1)) refl refl refl refl (a / 2 ^ y % 2) (b / 2 ^ y % 2) (mod-lt (a / 2 ^ y) (lit< tt)) (mod-lt (b / 2 ^ y) (lit< tt)))
 
 -- what only one of two sets has
-has-xor : (a b y : ℕ) → has (bitXor a b) y ≡ cond (has b y) (not (has a y)) (has a y)
+pub has-xor : (a b y : ℕ) → has (bitXor a b) y ≡ cond (has b y) (not (has a y)) (has a y)
 unfolding has
 has-xor a b y =
     rw (xor-shr a b y, xor-mod (a / 2 ^ y) (b / 2 ^ y) 1)
