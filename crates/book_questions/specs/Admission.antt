@@ -2,12 +2,14 @@
 use mathlib.Core.Bool.{Bool, true, false}
 use mathlib.Core.List.{List}
 use mathlib.Core.Path.{_≡_}
-use Prim.Native.Nat.{ℕ}
+use Prim.Native.Nat.{ℕ, _*_, _≤_}
 use lib.ListN.{length}
 use Rattle.base.specs.Result.{Result, map-result}
 use Rattle.base.specs.Result.Result.{refused, ok}
 use Rattle.roles.specs.Role.{Chain}
 use Rattle.roles.specs.Rule.{Book}
+use Rattle.book_header.specs.declared.Header.{Header}
+use Rattle.book_decoder.specs.Verdict.{header-of}
 use Rattle.refusals.specs.BookQueryRefusals.{book-query-cause, book-query-value}
 use Rattle.book_questions.specs.ShortQuestion.{asked-book}
 use Rattle.book_questions.specs.RuleTable.{Tabled}
@@ -16,9 +18,9 @@ use Rattle.book_questions.specs.declared.Admission.the-variants.{Admitte
 use Rattle.book_questions.specs.declared.BookAnswer.{BookAnswer}
 use Rattle.book_questions.specs.declared.BookAnswer.the-variants.{Yes, No, Refused as Refused-answer}
 
--- how many rules the book has, or the refusal by its number and value
-abbrev pub says : Admission → Result ℕ
-says (Admitted rules) = ok rules
+-- how many names and rules the book has, or the refusal by its number and value
+abbrev pub says : Admission → Result Header
+says (Admitted header) = ok header
 says (Refused refusal) = refused (book-query-cause refusal) (book-query-value refusal)
 
 -- yes, no, or the refusal by its number and value
@@ -30,6 +32,6 @@ answers (Refused-answer refusal) = refused (book-query-cause refusal) (book-quer
 -- the question's causes, and the lent table: the completed rules of the book that is asked, where so many numbers are lent; what it held where the
 -- question is refused
 pub record Admits (s : List ℕ) (r : ℕ) (w : Chain) (table table′ : List ℕ) (a : Admission) : Type 0 where
-  pub answer : says a ≡ map-result (λ b. length (b .rules)) (asked-book s r w)
+  pub answer : says a ≡ map-result header-of (asked-book s r w)
   pub kept : (cause value : ℕ) → asked-book s r w ≡ refused cause value → table′ ≡ table
-  pub tabled : (b : Book) → asked-book s r w ≡ ok b → length table ≡ 8192 → Tabled (b .rules) table′
+  pub tabled : (b : Book) → asked-book s r w ≡ ok b → 32 * length (b .rules) ≤ length table → Tabled (b .rules) (2 * b .names) table′

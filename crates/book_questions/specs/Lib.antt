@@ -1,4 +1,5 @@
 pub mod ShortQuestion
+pub mod ShortQuestionLaws
 pub mod RuleTable
 pub mod RuleTableLaws
 pub mod Completing

@@ -23,9 +23,10 @@ pub record Inserted (links : List ℕ) (size place : ℕ) (left links′ : List 
   pub room : length links′ ≡ length links
   pub chain : take (size + length left - 1) links′ ≡ inserted (take size links) place left
 
--- what a step is taken on: a table of so many rules, and 16 links of which so many are the chain
+-- what a step is taken on: a table of so many rules over some roles, and 16 links of which so many are the chain
 pub record Ready (table : List ℕ) (count : ℕ) (links : List ℕ) (size : ℕ) : Type 0 where
-  pub rules : Rules table count
+  pub roles : ℕ
+  pub rules : Rules table count roles
   pub room : length links ≡ 16
   pub few : size ≤ 16
 

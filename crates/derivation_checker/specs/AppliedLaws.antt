@@ -1,16 +1,17 @@
 -- Laws of a step on the chain that is the front of some links: each test that fails makes it impossible, and where all pass the chain with the left
 -- side inserted is the one after it.
-use mathlib.Core.List.{List}
-use mathlib.Core.Path.{_≡_, sym, ap, _∙_}
+use mathlib.Core.List.{List, [], _∷_}
+use mathlib.Core.Path.{_≡_, refl, sym, ap, _∙_, subst}
 use Prim.Native.Nat.{ℕ, _+_, _-_, _<_, _≤_}
 use native.Mathlib.Omega.{arith}
-use lib.ListN.{length, getD, take, drop}
-use lib.Seq.{length-take-le, getD-take}
+use lib.ListN.{length, getD, take, drop, set}
+use lib.Seq.{length-take-le, getD-take, drop-cons}
 use Rattle.derivation_steps.specs.WrittenSteps.{WrittenStep, replaced}
 use Rattle.derivation_steps.specs.StepLaws.{Possible, possible-true, possible-false}
 use Rattle.book_questions.specs.RuleTable.{entry, links-in, rule-in}
 use Rattle.book_questions.specs.RuleTableLaws.{right-in, left-length, slice-left}
 use Rattle.derivation_checker.specs.Applied.{inserted, Inserted, Ready, Applied}
+use Rattle.derivation_checker.specs.InsertionLaws.{inserted-one}
 
 module _ {table : List ℕ} {count : ℕ} {links : List ℕ} {size : ℕ} (ready : Ready table count links size) (t : WrittenStep) where
   -- where the step's rule stands
@@ -51,7 +52,7 @@ module _ {table : List ℕ} {count : ℕ} {links : List ℕ} {size : ℕ} (ready
 
   module _ (listed : t .number < count) (side : t .side ≤ 1) where
     left-size : length (rule-in table (t .number) (t .side) .left) ≡ links-left
-    left-size = left-length table (t .number) (t .side) count (ready .rules) listed side
+    left-size = left-length table (t .number) (t .side) count (ready .roles) (ready .rules) listed side
 
     -- the left side, as it is read from the table
     pub left-read : length (take (at + 2 + links-left - (at + 2)) (drop (at + 2) table)) ≡ links-left
@@ -88,3 +89,15 @@ module _ {table : List ℕ} {count : ℕ} {links : List ℕ} {size : ℕ} (ready
           few = omega arith;
           chain = λ _. ap (λ (m : ℕ). take (size + m - 1) links′) (sym n) ∙ h .chain ∙ ap (inserted (take size links) (t .place)) same;
         }
+
+    -- by a left side of one role
+    pub taken-one : t .place < size → getD links (t .place) 0 ≡ getD table at 0 → links-left ≡ 1
+        → Result (set links (t .place) (getD table (at + 2) 0)) size
+    taken-one l right one =
+        let new : List ℕ = set links (t .place) (getD table (at + 2) 0) in
+        let e : size + links-left - 1 ≡ size = omega arith in
+        let n : at + 2 + links-left - (at + 2) ≡ 1 = omega arith in
+        subst (Result new) e
+        (taken l right (omega (arith, ready .few)) (getD table (at + 2) 0 ∷ []) new
+        (rw (n, drop-cons table (at + 2) 0 (omega (arith, ready .rules .size))) refl)
+        (inserted-one links size (t .place) (getD table (at + 2) 0) l (omega (arith, ready .room, ready .few))))

@@ -21,11 +21,11 @@ pub record Following (table : List ℕ) (rules role : ℕ) (steps links : List �
   pub inside : k ≤ length steps / 4
   pub running : Running rules (rule-in table) steps role (length steps / 4) k (take size links)
 
-pub following-start : (table : List ℕ) (rules role : ℕ) (steps links : List ℕ) → Rules table rules → length steps % 4 ≡ 0 → length links ≡ 16
+pub following-start : (table : List ℕ) (rules role : ℕ) (steps links : List ℕ) {roles : ℕ} → Rules table rules roles → length steps % 4 ≡ 0 → length links ≡ 16
     → take 1 links ≡ role ∷ [] → Following table rules role steps links 1 0
-following-start table rules role steps links good even room e =
+following-start table rules role steps links {roles} good even room e =
     record {
-      ready = record { rules = good; room = room; few = omega arith };
+      ready = record { roles = roles; rules = good; room = room; few = omega arith };
       some = omega arith;
       even = even;
       inside = omega arith;
@@ -50,7 +50,7 @@ module _ {table : List ℕ} {rules role : ℕ} {steps links : List ℕ} {size k 
       following-next z =
           let some : 1 ≤ size′ = omega arith in
           record {
-            ready = record { rules = f .ready .rules; room = taken .room; few = taken .few };
+            ready = record { roles = f .ready .roles; rules = f .ready .rules; room = taken .room; few = taken .few };
             some = some;
             even = f .even;
             inside = omega arith;

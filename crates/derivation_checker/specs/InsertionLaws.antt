@@ -4,13 +4,18 @@ use mathlib.Core.Path.{_≡_, refl, sym, ap, _∙_}
 use Prim.Native.Nat.{ℕ, suc, _+_, _-_, _<_, _≤_}
 use native.Mathlib.Numerals.{add-one}
 use native.Mathlib.Omega.{arith}
-use lib.ListN.{length, getD, take, drop, set, length-append, length-drop, take-append-drop, List·getD-append}
-use lib.Seq.{paste, length-paste, take-add, take-take, take-append-le, take-at, drop-at, take-length, length-take-le, take-suc, drop-cons, set-at, append-snoc, getD-take}
+use lib.ListN.{length, getD, take, drop, set, length-set, length-append, length-drop, List·getD-append}
+use lib.Seq.{paste, length-paste, take-add, take-take, take-append-le, take-at, drop-at, take-length, length-take-le, take-suc, drop-cons, set-at, set-split, take-set-lt, append-snoc, getD-take}
 use Rattle.derivation_checker.specs.Applied.{inserted, Inserted}
 
--- moved by no place
-pub paste-own : (l : List ℕ) (from size : ℕ) → l ≡ paste l from (drop from l) size
-paste-own l from size = sym (rw (← take-add from size l) (take-append-drop (from + size) l))
+-- one link for another
+pub inserted-one : (l : List ℕ) (size place x : ℕ) → place < size → size ≤ length l → Inserted l size place (x ∷ []) (set l place x)
+inserted-one l size place x p q =
+    let e : size + 1 - 1 ≡ size = omega arith in
+    record {
+      room = length-set l place x;
+      chain = rw e (take-set-lt size l place x p ∙ set-split (take size l) place x (rw (length-take-le size l q) p));
+    }
 
 paste-front : (l : List ℕ) (i by end : ℕ) → i < end → end + by ≤ length l
     → set (paste l (i + 1 + by) (drop (i + 1) l) (end - (i + 1))) (i + by) (getD l i 0) ≡ paste l (i + by) (drop i l) (end - i)

@@ -6,7 +6,6 @@ ghost use lib.Seq.{paste};
 ghost use Rattle.derivation_steps.specs.WrittenSteps.{step-at};
 ghost use Rattle.book_questions.specs.RuleTable.{rule-in};
 ghost use Rattle.derivation_checker.specs.Applied.{written, Inserted, Ready, Applied};
-use words::word;
 
 // A replacement: at a place of the chain, by the rule of a number or by its inverse (side 1).
 pub(crate) struct WrittenStep {
@@ -22,7 +21,7 @@ pub(crate) fn step_of(steps: &[u8], k: usize) -> WrittenStep
 {
     let at = 4 * k;
     WrittenStep {
-        place: word(steps, at),
+        place: steps[at] as usize + 256 * steps[at + 1] as usize,
         number: steps[at + 2] as usize,
         side: steps[at + 3] as usize,
     }
@@ -58,6 +57,10 @@ pub(crate) fn apply(
         return 0;
     }
     let count = table[at + 1] as usize;
+    if count == 1 {
+        links[place] = table[at + 2];
+        return size;
+    }
     if 17 < size + count {
         return 0;
     }
@@ -78,15 +81,12 @@ fn insert(links: &mut [u8], size: usize, place: usize, left: &[u8])
     put(links, place, left);
 }
 
-// Moves the links from a place to an end up by so many places, the last one first; by none, nothing is touched.
+// Moves the links from a place to an end up by so many places, the last one first.
 fn shift(links: &mut [u8], from: usize, end: usize, by: usize)
     requires { ⌜ from ≤ end ⌝ }
     requires { ⌜ end + by ≤ length (now links) ⌝ }
     ensures { λ _. ⌜ now (links .exit) ≡ paste (now (links .entry)) (from + by) (drop from (now (links .entry))) (end - from) ⌝ }
 {
-    if by == 0 {
-        return;
-    }
     let mut i = end;
     while from < i {
         i -= 1;

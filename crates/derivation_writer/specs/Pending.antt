@@ -1,6 +1,6 @@
 -- Roles still to derive, one after another, each with the end of its part in one number: 128 times the end plus the role.
 use mathlib.Core.List.{List, [], _∷_, map}
-use Prim.Native.Nat.{ℕ, _+_, _-_, _*_, _/_, _%_}
+use Prim.Native.Nat.{ℕ, _+_, _-_, _*_, _/_, _%_, _<_}
 use Rattle.roles.specs.Role.{Chain}
 
 abbrev pub end-of : ℕ → ℕ
@@ -11,6 +11,10 @@ role-of p = p % 128
 
 abbrev pub roles-of : List ℕ → Chain
 roles-of = map role-of
+
+-- a property, of roles below a bound
+abbrev pub Below : (roles : ℕ) (F : (i j r : ℕ) → Type 0) (i j r : ℕ) → Type 0
+Below roles F i j r = (r < roles) × F i j r
 
 -- pending roles have their parts side by side, from i to j, each with the property
 pub data Tiles (F : (i j r : ℕ) → Type 0) : List ℕ → ℕ → ℕ → Type 0 where

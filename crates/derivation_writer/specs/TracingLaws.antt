@@ -16,9 +16,9 @@ use Rattle.derivation_charts.specs.Chart.Reason.{letter, ruled}
 use Rattle.derivation_charts.specs.SplitsLaws.{splits-long, charted-forward}
 use Rattle.book_questions.specs.RuleTable.{rule-in, entry}
 use Rattle.book_questions.specs.RuleTableLaws.{left-length, left-below}
-use Rattle.derivation_writer.specs.Pending.{end-of, role-of, roles-of, Tiles, left-over}
+use Rattle.derivation_writer.specs.Pending.{end-of, role-of, roles-of, Below, Tiles, left-over}
 use Rattle.derivation_writer.specs.Pending.Tiles.{none, more}
-use Rattle.derivation_writer.specs.PendingLaws.{role-below, tiles-append, left-over-append, tiles-long, left-over-less}
+use Rattle.derivation_writer.specs.PendingLaws.{tiles-append, tiles-below, left-over-append, tiles-long, left-over-less}
 use Rattle.derivation_writer.specs.Division.{StepPut, Divided}
 use Rattle.derivation_writer.specs.Tracing.{Ready, Pends, Tracing, Traced, Turned}
 use Rattle.derivation_writer.specs.declared.trace.Place.{Place}
@@ -31,37 +31,47 @@ abbrev top-role : List ℕ → Place → ℕ
 top-role pending p = role-of (getD pending (p .top) 0)
 
 -- it is found for its part, and those behind it make up the rest
-pub record First (w : Chain) (chart pending : List ℕ) (p : Place) : Type 0 where
+pub record First (roles : ℕ) (w : Chain) (chart pending : List ℕ) (p : Place) : Type 0 where
   pub full : length pending ≡ 16
   pub under : p .top < 16
   pub cons : drop (p .top) pending ≡ getD pending (p .top) 0 ∷ drop (suc (p .top)) pending
+  pub named : top-role pending p < roles
   pub found : Found chart (p .link) (top-end pending p) (top-role pending p)
-  pub behind : Tiles (Found chart) (drop (suc (p .top)) pending) (top-end pending p) (length w)
+  pub behind : Tiles (Below roles (Found chart)) (drop (suc (p .top)) pending) (top-end pending p) (length w)
 
-pub first : {w : Chain} {chart pending : List ℕ} {p : Place} → p .top < 16 → Pends w chart pending p → First w chart pending p
-first {w} {chart} {pending} {p} h a = by-tiles (subst (λ (l : List ℕ). Tiles (Found chart) l (p .link) (length w)) cons (a .tiles))
+pub first : {roles : ℕ} {w : Chain} {chart pending : List ℕ} {p : Place} → p .top < 16 → Pends roles w chart pending p → First roles w chart pending p
+first {roles} {w} {chart} {pending} {p} h a = by-tiles (subst (λ (l : List ℕ). Tiles (Below roles (Found chart)) l (p .link) (length w)) cons (a .tiles))
   where
     cons : drop (p .top) pending ≡ getD pending (p .top) 0 ∷ drop (suc (p .top)) pending
     cons = drop-cons pending (p .top) 0 (omega (arith, a .size))
 
-    by-tiles : Tiles (Found chart) (getD pending (p .top) 0 ∷ drop (suc (p .top)) pending) (p .link) (length w) → First w chart pending p
-    by-tiles (more f t) = record { full = a .size; under = h; cons = cons; found = f; behind = t }
+    by-tiles : Tiles (Below roles (Found chart)) (getD pending (p .top) 0 ∷ drop (suc (p .top)) pending) (p .link) (length w) → First roles w chart pending p
+    by-tiles (more f t) = record { full = a .size; under = h; cons = cons; named = f .0; found = f .1; behind = t }
 
-module _ {table : List ℕ} {w : Chain} {chart : List ℕ} (ready : Ready table w chart) {pending : List ℕ} {p : Place} (f : First w chart pending p) where
+-- what is found of the roles in a chart
+module _ {table : List ℕ} {w : Chain} {chart : List ℕ} (ready : Ready table w chart) where
+  ready-inside : (i j r : ℕ) → Below (ready .roles) (Found chart) i j r → (i < j) × (j ≤ length w)
+  ready-inside i j r h = ready .charted .inside i j r (h .0) (h .1)
+
+  ready-low : (i j r : ℕ) → Below (ready .roles) (Found chart) i j r → ready .charted .rank i j r < 128
+  ready-low i j r h = ready .charted .low i j r (h .0) (h .1)
+
+module _ {table : List ℕ} {w : Chain} {chart : List ℕ} (ready : Ready table w chart) {pending : List ℕ} {p : Place} (f : First (ready .roles) w chart pending p) where
   pub first-inside : (p .link < top-end pending p) × (top-end pending p ≤ length w)
-  first-inside = ready .charted .inside _ _ _ (role-below (getD pending (p .top) 0)) (f .found)
+  first-inside = ready .charted .inside _ _ _ (f .named) (f .found)
 
   behind-long : top-end pending p + (15 - p .top) ≤ length w
-  behind-long = omega (arith, tiles-long (length w) (ready .charted .inside) (f .behind), length-drop (suc (p .top)) pending, f .full)
+  behind-long = omega (arith, tiles-long (length w) (ready-inside ready) (f .behind), length-drop (suc (p .top)) pending, f .full)
 
   -- the completed rule q gives it, and there is room for its left side
   pub record Given (q : ℕ) : Type 0 where
     pub listed : q / 2 < ready .count
     pub small : q < 512
+    pub tabled : 16 * q + 16 ≤ length table
     pub links : getD table (16 * q + 1) 0 ≤ 8
     pub right : rule-in table (q / 2) (q % 2) .right ≡ top-role pending p
     pub some : 1 ≤ length (rule-in table (q / 2) (q % 2) .left)
-    pub named : (k : ℕ) → k < length (rule-in table (q / 2) (q % 2) .left) → getD (rule-in table (q / 2) (q % 2) .left) k 0 < 128
+    pub named : (k : ℕ) → k < length (rule-in table (q / 2) (q % 2) .left) → getD (rule-in table (q / 2) (q % 2) .left) k 0 < ready .roles
     pub splits : Splits (Found chart) (rule-in table (q / 2) (q % 2) .left) (p .link) (top-end pending p)
     pub lower : (s : ℕ) → rule-in table (q / 2) (q % 2) .left ≡ s ∷ []
         → ready .charted .rank (p .link) (top-end pending p) s < ready .charted .rank (p .link) (top-end pending p) (top-role pending p)
@@ -70,20 +80,21 @@ module _ {table : List ℕ} {w : Chain} {chart : List ℕ} (ready : Ready table 
   -- where it is no link itself
   pub given : (q : ℕ) → q ≡ by chart (p .link) (top-end pending p) (top-role pending p)
       → ((top-end pending p ≡ p .link + 1) × (getD w (p .link) 0 ≡ top-role pending p) → ⊥) → Given q
-  given q e n = by-reason (ready .charted .reason _ _ _ (role-below (getD pending (p .top) 0)) (f .found))
+  given q e n = by-reason (ready .charted .reason _ _ _ (f .named) (f .found))
     where
-      by-reason : Reason (ready .count) (rule-in table) w chart (ready .charted .rank) (p .link) (top-end pending p) (top-role pending p) → Given q
+      by-reason : Reason (ready .count) (rule-in table) (ready .roles) w chart (ready .charted .rank) (p .link) (top-end pending p) (top-role pending p) → Given q
       by-reason (letter a b) = absurd (n (a, b))
       by-reason (ruled r) =
           let listed : q / 2 < ready .count = rw e (r .listed) in
           let splits : Splits (Found chart) (rule-in table (q / 2) (q % 2) .left) (p .link) (top-end pending p) = rw e (r .splits) in
           let side : q % 2 ≤ 1 = omega arith in
           let at : entry (q / 2) (q % 2) ≡ 16 * q = omega arith in
-          let links = left-length table (q / 2) (q % 2) (ready .count) (ready .rules) listed side in
-          let named = left-below table (q / 2) (q % 2) (ready .count) (ready .rules) listed side in
+          let links = left-length table (q / 2) (q % 2) (ready .count) (ready .roles) (ready .rules) listed side in
+          let named = left-below table (q / 2) (q % 2) (ready .count) (ready .roles) (ready .rules) listed side in
           record {
             listed = listed;
             small = omega (arith, ready .rules .few);
+            tabled = omega (arith, ready .rules .size);
             links = rw (← at) (ready .rules .most (q / 2) (q % 2) listed side);
             right = rw e (r .right);
             some = rw links (ready .rules .some (q / 2) (q % 2) listed side);
@@ -96,7 +107,7 @@ module _ {table : List ℕ} {w : Chain} {chart : List ℕ} (ready : Ready table 
 -- the steps so far
 module _ {table : List ℕ} {w : Chain} {chart : List ℕ} (ready : Ready table w chart) (role : ℕ) (old : List ℕ) where
   -- none, with the role pending for the whole chain
-  pub tracing-start : {pending : List ℕ} → role < 128 → Found chart 0 (length w) role → length pending ≡ 16
+  pub tracing-start : {pending : List ℕ} → role < ready .roles → Found chart 0 (length w) role → length pending ≡ 16
       → drop 15 pending ≡ (128 * length w + role) ∷ [] → Tracing ready role old old pending (record { top = 15; link = 0; step = 0 })
   unfolding leads left-over
   tracing-start {pending} low found size e =
@@ -109,13 +120,13 @@ module _ {table : List ℕ} {w : Chain} {chart : List ℕ} (ready : Ready table 
       }
     where
       end : end-of (128 * length w + role) ≡ length w
-      end = omega arith
+      end = omega (arith, ready .charted .few)
 
       named : role-of (128 * length w + role) ≡ role
-      named = omega arith
+      named = omega (arith, ready .charted .few)
 
-      tiles : Tiles (Found chart) ((128 * length w + role) ∷ []) 0 (length w)
-      tiles = subst (Tiles (Found chart) ((128 * length w + role) ∷ []) 0) end (more (rw (end, named) found) none)
+      tiles : Tiles (Below (ready .roles) (Found chart)) ((128 * length w + role) ∷ []) 0 (length w)
+      tiles = subst (Tiles (Below (ready .roles) (Found chart)) ((128 * length w + role) ∷ []) 0) end (more (rw named low, rw (end, named) found) none)
 
   -- all, where no role is pending
   pub tracing-end : {steps pending : List ℕ} {p : Place} → 16 ≤ p .top → Tracing ready role old steps pending p → Traced ready role old steps (p .step)
@@ -130,10 +141,10 @@ module _ {table : List ℕ} {w : Chain} {chart : List ℕ} (ready : Ready table 
       over : drop (p .top) pending ≡ []
       over = drop-of-length-le pending {i = p .top} (omega (arith, a .pends .size))
 
-      whole : {i j : ℕ} → Tiles (Found chart) [] i j → j ≤ i
+      whole : {i j : ℕ} → Tiles (Below (ready .roles) (Found chart)) [] i j → j ≤ i
       whole none = omega arith
 
-  module _ {steps pending : List ℕ} {p : Place} (f : First w chart pending p) (a : Tracing ready role old steps pending p) where
+  module _ {steps pending : List ℕ} {p : Place} (f : First (ready .roles) w chart pending p) (a : Tracing ready role old steps pending p) where
     abbrev behind : List ℕ
     behind = drop (suc (p .top)) pending
 
@@ -160,7 +171,7 @@ module _ {table : List ℕ} {w : Chain} {chart : List ℕ} (ready : Ready table 
           pends = record {
             size = f .full;
             few = omega (arith, f .under);
-            tiles = rw (add-one (p .top)) (subst (λ (i : ℕ). Tiles (Found chart) behind i (length w)) (e .0) (f .behind));
+            tiles = rw (add-one (p .top)) (subst (λ (i : ℕ). Tiles (Below (ready .roles) (Found chart)) behind i (length w)) (e .0) (f .behind));
           };
           size = a .size;
           kept = a .kept;
@@ -187,11 +198,14 @@ module _ {table : List ℕ} {w : Chain} {chart : List ℕ} (ready : Ready table 
               leads-step (ready .count) (rule-in table) steps′ (p .step) (role ∷ []) (take (p .link) w) (q / 2) (q % 2) (roles-of behind) (g .listed) (omega arith)
               short (rw there (s .step)) (same ∙ (a .led ∙ ap (λ (l : Chain). ok (take (p .link) w ++ l)) front))
               ∙ ap (λ (l : Chain). ok (take (p .link) w ++ l)) back;
-          bound = rw (d .stored) (omega (arith, bound, less, left-over-append rank (d .tiles) behind));
+          bound = rw (d .stored) (omega (arith, bound, less, left-over-append rank parts behind));
         }
       where
-        tiles : Tiles (Found chart) (d .pairs ++ behind) (p .link) (length w)
-        tiles = tiles-append (d .tiles) (f .behind)
+        parts : Tiles (Below (ready .roles) (Found chart)) (d .pairs) (p .link) (top-end pending p)
+        parts = tiles-below (rw (d .named, e) (g .named)) (d .tiles)
+
+        tiles : Tiles (Below (ready .roles) (Found chart)) (d .pairs ++ behind) (p .link) (length w)
+        tiles = tiles-append parts (f .behind)
 
         many : length (d .pairs) ≡ length left
         many = sym (length-map (d .pairs) role-of) ∙ ap length (d .named)
@@ -220,21 +234,21 @@ module _ {table : List ℕ} {w : Chain} {chart : List ℕ} (ready : Ready table 
               many,
               length-map behind role-of,
               length-append (d .pairs) behind,
-              tiles-long (length w) (ready .charted .inside) tiles,
+              tiles-long (length w) (ready-inside ready) tiles,
               ready .charted .short,
             )
 
         less : left-over rank (d .pairs) (p .link)
             < 255 * (top-end pending p - p .link - 1) + rank (p .link) (top-end pending p) (top-role pending p)
         less =
-            left-over-less (length w) (ready .charted .inside) rank (ready .charted .low) (top-role pending p) (d .tiles)
+            left-over-less (length w) (ready-inside ready) rank (ready-low ready) (top-role pending p) parts
             (omega (arith, many, ap length e, g .some)) (λ r h. g .lower r (sym (d .named ∙ e) ∙ h))
 
 -- one turn, for all that may have been traced
-module _ {table : List ℕ} {w : Chain} {chart steps pending : List ℕ} {p : Place} (f : First w chart pending p) where
+module _ {table : List ℕ} {w : Chain} {chart steps pending : List ℕ} {p : Place} (h : p .top < 16) where
   pub turned-link : (top-end pending p ≡ p .link + 1) × (getD w (p .link) 0 ≡ top-role pending p)
       → Turned table w chart steps pending p steps pending (record { top = p .top + 1; link = p .link + 1; step = p .step })
-  turned-link e = record { onward = omega arith; tracing = λ ready role old a. tracing-link ready role old f a e }
+  turned-link e = record { onward = omega arith; tracing = λ ready role old a. tracing-link ready role old (first h (a .pends)) a e }
 
   pub turned-rule : (q : ℕ) → q ≡ by chart (p .link) (top-end pending p) (top-role pending p)
       → ((top-end pending p ≡ p .link + 1) × (getD w (p .link) 0 ≡ top-role pending p) → ⊥)
@@ -242,7 +256,10 @@ module _ {table : List ℕ} {w : Chain} {chart steps pending : List ℕ} {p : Pl
       → StepPut steps (p .step) (p .link) q steps′ → Divided chart left (p .link) (top-end pending p) pending (p .top) pending′ top
       → Turned table w chart steps pending p steps′ pending′ (record { top = top; link = p .link; step = p .step + 1 })
   turned-rule q e n l s d =
-      record { onward = omega arith; tracing = λ ready role old a. tracing-rule ready role old f a q (given ready f q e n) l s d }
+      record {
+        onward = omega arith;
+        tracing = λ ready role old a. let f = first h (a .pends) in tracing-rule ready role old f a q (given ready f q e n) l s d;
+      }
 
 -- one role pending, in the last place
 pub last-pending : (pending : List ℕ) (p : ℕ) → length pending ≡ 16 → drop 15 (set pending 15 p) ≡ p ∷ []

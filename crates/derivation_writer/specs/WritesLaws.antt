@@ -5,7 +5,7 @@ use mathlib.Core.Path.{_≡_, refl, sym, ap, _∙_, subst}
 use Prim.Native.Nat.{ℕ, _+_, _*_, _<_, _≤_}
 use native.Mathlib.Omega.{arith}
 use borrow.Author.Tests.{le-leb, lt-leb}
-use lib.ListN.{length, take, drop, length-drop, take-append-drop}
+use lib.ListN.{length, getD, take, drop, length-drop, take-append-drop}
 use lib.Seq.{length-take-le, getD-drop, ext-getD}
 use Rattle.base.specs.Result.{Result, and-then}
 use Rattle.base.specs.Result.Result.{ok}
@@ -14,6 +14,9 @@ use Rattle.base.specs.Writing.{over}
 use Rattle.name_sets.specs.Mask.{has}
 use Rattle.roles.specs.Role.{Chain}
 use Rattle.roles.specs.Rule.{Book, Rule}
+use Rattle.words.specs.Word.{word}
+use Rattle.book_header.specs.declared.Header.{Header}
+use Rattle.book_decoder.specs.Verdict.{header-of}
 use Rattle.refusals.specs.declared.book_query.BookQueryRefusal.{BookQueryRefusal}
 use Rattle.refusals.specs.declared.book_query.BookQueryRefusal.the-variants.{Buffer}
 use Rattle.derivation_steps.specs.WrittenSteps.{checked, completed, derivation}
@@ -21,33 +24,33 @@ use Rattle.derivation_steps.specs.LeadsLaws.{leads-front, checked-steps}
 use Rattle.derivation_steps.specs.RunningLaws.{checked-agree}
 use Rattle.derivation_charts.specs.Chart.{ends-of}
 use Rattle.book_questions.specs.ShortQuestion.{asked-book}
+use Rattle.book_questions.specs.ShortQuestionLaws.{asked}
 use Rattle.book_questions.specs.RuleTable.{rule-in}
 use Rattle.book_questions.specs.declared.Admission.{Admission}
 use Rattle.book_questions.specs.declared.Admission.the-variants.{Admitted, Refused as Refused-admission}
 use Rattle.book_questions.specs.Admission.{says}
 use Rattle.derivation_search.specs.Searched.{Searched, Searches}
-use Rattle.derivation_search.specs.SearchedLaws.{asked}
-use Rattle.derivation_writer.specs.WritesDerivation.{lent-enough, writable, Writes, Gives}
+use Rattle.derivation_writer.specs.WritesDerivation.{lent-enough, writable, Writes, Roomy, SearchedFor, Gives}
 use Rattle.derivation_writer.specs.WritesDerivation.Writes.{refuses, no, steps}
 use Rattle.derivation_writer.specs.Tracing.{Ready, Traced}
 use Rattle.derivation_writer.specs.declared.Derivation.the-variants.{Steps, None, Refused}
 use Rattle.derivation_writer.specs.declared.Derivation.{Derivation}
 
 -- what a search finds, for a writer
-abbrev pub searched-ready : {ρs : List Rule} {w : Chain} {table chart : List ℕ} → Searched ρs w table chart → Ready table w chart
-searched-ready {ρs} q = record { count = length ρs; rules = q .tabled .rules; charted = q .charted }
+abbrev pub searched-ready : {ρs : List Rule} {roles : ℕ} {w : Chain} {table chart : List ℕ} → Searched ρs roles w table chart → Ready table w chart
+searched-ready {ρs} {roles} q = record { count = length ρs; roles = roles; rules = q .tabled .rules; charted = q .charted }
 
-searched-derivation : {ρs : List Rule} {w : Chain} {table chart : List ℕ} (q : Searched ρs w table chart) (r : ℕ) (v : List ℕ)
+searched-derivation : {ρs : List Rule} {roles : ℕ} {w : Chain} {table chart : List ℕ} (q : Searched ρs roles w table chart) (r : ℕ) (v : List ℕ)
     → checked (length ρs) (rule-in table) r w v ≡ ok true → derivation ρs r w v ≡ ok true
 unfolding derivation
-searched-derivation {ρs} {w} {table} q r v h = sym (checked-agree (length ρs) (rule-in table) (completed ρs) (q .tabled .same) r w v) ∙ h
+searched-derivation {ρs} {roles} {w} {table} q r v h = sym (checked-agree (length ρs) (rule-in table) (completed ρs) (q .tabled .same) r w v) ∙ h
 
 -- for a book that is asked
 module _ (b : Book) (r : ℕ) (w : Chain) (old : List ℕ) where
   pub gives-buffer : length old < 16384 → Gives b r w old old (Refused Buffer)
   gives-buffer h = refuses Buffer (rw (lt-leb 16384 (length old) h) refl)
 
-  module _ (room : 16384 ≤ length old) {table chart : List ℕ} (q : Searched (b .rules) w table chart) where
+  module _ (room : 16384 ≤ length old) {table chart : List ℕ} (q : Searched (b .rules) (2 * b .names) w table chart) where
     lent : lent-enough (length old) b ≡ ok b
     lent = rw (le-leb 16384 (length old) room) refl
 
@@ -74,6 +77,13 @@ module _ (b : Book) (r : ℕ) (w : Chain) (old : List ℕ) where
             searched-derivation q r (take (4 * n) new)
             (checked-steps (length (b .rules)) (rule-in table) r w (take (4 * n) new) n front (leads-front (length (b .rules)) (rule-in table) new n (r ∷ []) ∙ t .led))
 
+-- room for a book of few names and rules, by its header, and for every book
+pub roomy-small : (s : List ℕ) {table chart : ℕ} → getD s 5 0 ≤ 8 → word s 6 ≤ 16 → table ≡ 512 → chart ≡ 4656 → Roomy s table chart
+roomy-small s names rules t l b d = (omega (arith, d .count), omega (arith, d .names))
+
+pub roomy-large : (s : List ℕ) {table chart : ℕ} → table ≡ 8192 → chart ≡ 37248 → Roomy s table chart
+roomy-large s t l b d = (omega (arith, d .count, d .count-most), omega (arith, d .names-most))
+
 -- by what a search finds
 writable-from : (s : List ℕ) (r : ℕ) (w : Chain) (lent : ℕ) (x : Result Book) → asked-book s r w ≡ x
     → writable lent s r w ≡ and-then x (lent-enough lent)
@@ -85,20 +95,22 @@ module _ {s : List ℕ} {r : ℕ} {w : Chain} {table table′ chart chart′ : L
       → Writes (writable (length old) s r w) r w old old (Refused refusal)
   writes-refused {refusal} e old =
       refuses refusal
-      (writable-from s r w (length old) _ (map-refused (λ b. length (b .rules)) (asked-book s r w) (ap says (sym e) ∙ q .answer)))
+      (writable-from s r w (length old) _ (map-refused header-of (asked-book s r w) (ap says (sym e) ∙ q .answer)))
 
-  module _ {rules : ℕ} (e : a ≡ Admitted rules) (t : length table ≡ 8192) (l : length chart ≡ 37008) where
-    book : (b : Book) × (asked-book s r w ≡ ok b) × (rules ≡ length (b .rules))
-    book = map-ok (λ b. length (b .rules)) (asked-book s r w) (ap says (sym e) ∙ q .answer)
+  module _ (room : Roomy s (length table) (length chart)) {header : Header} (e : a ≡ Admitted header) where
+    book : (b : Book) × (asked-book s r w ≡ ok b) × (header ≡ header-of b)
+    book = map-ok header-of (asked-book s r w) (ap says (sym e) ∙ q .answer)
 
-    pub some-searched : (ρs : List Rule) × Searched ρs w table′ chart′
-    some-searched = (book .0 .rules, q .searched (book .0) (book .1) t l)
+    book-searched : SearchedFor (book .0) r w table′ chart′
+    book-searched =
+        let a = asked s r w (book .0) (book .1) in
+        let fits = room (book .0) (a .book) in
+        record { named = a .question .role-named; searched = q .searched (book .0) (book .1) (fits .0) (fits .1) }
 
-    pub role-named : r < 128
-    role-named = asked s r w (book .0) (book .1) .role
+    pub some-searched : (b : Book) × SearchedFor b r w table′ chart′
+    some-searched = (book .0, book-searched)
 
-    pub writes-given : (old : List ℕ) {new : List ℕ} {d : Derivation} → ((b : Book) → Searched (b .rules) w table′ chart′ → Gives b r w old new d)
+    pub writes-given : (old : List ℕ) {new : List ℕ} {d : Derivation} → ((b : Book) → SearchedFor b r w table′ chart′ → Gives b r w old new d)
         → Writes (writable (length old) s r w) r w old new d
     writes-given old {new} {d} g =
-        subst (λ (c : Result Book). Writes c r w old new d) (sym (writable-from s r w (length old) _ (book .1)))
-        (g (book .0) (q .searched (book .0) (book .1) t l))
+        subst (λ (c : Result Book). Writes c r w old new d) (sym (writable-from s r w (length old) _ (book .1))) (g (book .0) book-searched)

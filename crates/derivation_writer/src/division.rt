@@ -35,15 +35,15 @@ pub(crate) fn stands(chain: &[u8], i: usize, end: usize, role: u8) -> bool
 
 // The completed rule that a role was found by for a part.
 pub(crate) fn rule_by(chart: &[u16], i: usize, end: usize, role: u8) -> usize
-    requires { ⌜ (length (now chart) ≡ 37008) × (i < end) × (end ≤ 16) × (role < 128) ⌝ }
+    requires { ⌜ (274 * role + 274 ≤ length (now chart)) × (i < end) × (end ≤ 16) ⌝ }
     ensures { λ r. ⌜ r ≡ by (now (chart .entry)) i end role ⌝ }
 {
-    chart[2176 + 128 * (16 * i + (end - 1)) + role as usize] as usize
+    chart[274 * role as usize + 17 + (16 * i + (end - 1))] as usize
 }
 
 // The left side of the completed rule q.
 pub(crate) fn left_of(table: &[u8], q: usize) -> &[u8]
-    requires { ⌜ (q < 512) × (length (now table) ≡ 8192) × (getD (now table) (16 * q + 1) 0 ≤ 8) ⌝ }
+    requires { ⌜ (q < 512) × (16 * q + 16 ≤ length (now table)) × (getD (now table) (16 * q + 1) 0 ≤ 8) ⌝ }
     ensures { λ r. ⌜ now r ≡ rule-in (now (table .entry)) (q / 2) (q % 2) .left ⌝ }
 {
     let start = 16 * q + 2;
@@ -99,10 +99,11 @@ fn cut(chart: &[u16], left: &[u8], t: usize, i: usize, end: usize) -> usize
     let mut rest = ends(chart, i, left[t]);
     while rest != 0 {
         let m = u64::trailing_zeros(rest) as usize;
-        if has(reach(chart, &left[after..], m), end) {
+        let only = single(m);
+        if has(reach(chart, &left[after..], only), end) {
             return m;
         }
-        rest = rest ^ single(m);
+        rest = rest ^ only;
     }
     end
 }

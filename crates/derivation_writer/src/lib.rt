@@ -1,20 +1,19 @@
 // Writes a derivation out: the steps from a role to a chain, from a chart of the roles that derive its parts.
-ghost use mathlib.Core.List.{List};
-ghost use Prim.Native.Nat.{_<_};
 ghost use lib.ListN.{length};
-ghost use Rattle.roles.specs.Rule.{Rule, Book};
-ghost use Rattle.derivation_search.specs.Searched.{Searched};
-ghost use Rattle.derivation_writer.specs.WritesDerivation.{writable, Writes, Gives};
+ghost use Rattle.roles.specs.Rule.{Book};
+ghost use Rattle.derivation_writer.specs.WritesDerivation.{writable, Writes, Roomy, SearchedFor, Gives};
 
 mod division;
 mod trace;
 
 use book_questions::Admission;
+use byte_parts::byte;
 use derivation_charts::ends;
 use derivation_search::find;
 use name_sets::has;
 use refusals::BookQueryRefusal;
 use trace::trace;
+use words::word;
 
 // What is said of a derivation that is asked for.
 pub enum Derivation {
@@ -27,24 +26,53 @@ pub enum Derivation {
 
 // Writes the steps of a derivation of the chain from the role by the rules of a book, four bytes each: the place in 16 bits, low byte first, the rule's
 // number, 0 for the rule itself or 1 for its inverse. 16,384 bytes are lent at least. The bytes behind the steps stay as they were, and all of them where
-// no steps are written.
+// no steps are written. Books of few names and rules are searched in small arrays, which take less time to clear.
 pub fn write(book: &[u8], role: u8, chain: &[u8], steps: &mut [u8]) -> Derivation
     ensures { λ r. ⌜ Writes (writable (length (now (steps .entry))) (now (book .entry)) role (now (chain .entry))) role (now (chain .entry))
         (now (steps .entry)) (now (steps .exit)) r ⌝ }
 {
+    if byte(book, 5) <= 8 && word(book, 6) <= 16 {
+        let mut table = [0u8; 512];
+        let mut chart = [0u16; 4656];
+        return write_in(book, role, chain, &mut table, &mut chart, steps);
+    }
+    write_large(book, role, chain, steps)
+}
+
+// The same, with arrays that have room for every book.
+fn write_large(book: &[u8], role: u8, chain: &[u8], steps: &mut [u8]) -> Derivation
+    ensures { λ r. ⌜ Writes (writable (length (now (steps .entry))) (now (book .entry)) role (now (chain .entry))) role (now (chain .entry))
+        (now (steps .entry)) (now (steps .exit)) r ⌝ }
+{
     let mut table = [0u8; 8192];
-    let mut chart = [0u16; 37008];
-    let admission = find(book, role, chain, &mut table, &mut chart);
+    let mut chart = [0u16; 37248];
+    write_in(book, role, chain, &mut table, &mut chart, steps)
+}
+
+// The same, with room for the rules and the chart.
+fn write_in(
+    book: &[u8],
+    role: u8,
+    chain: &[u8],
+    table: &mut [u8],
+    chart: &mut [u16],
+    steps: &mut [u8],
+) -> Derivation
+    requires { ⌜ Roomy (now book) (length (now table)) (length (now chart)) ⌝ }
+    ensures { λ r. ⌜ Writes (writable (length (now (steps .entry))) (now (book .entry)) role (now (chain .entry))) role (now (chain .entry))
+        (now (steps .entry)) (now (steps .exit)) r ⌝ }
+{
+    let admission = find(book, role, chain, table, chart);
     match admission {
         Admission::Refused(refusal) => Derivation::Refused(refusal),
-        Admission::Admitted(_) => give(&table, chain, &chart, role, steps),
+        Admission::Admitted(_) => give(table, chain, chart, role, steps),
     }
 }
 
 // The same for a chain of which is found which roles derive its parts.
 fn give(table: &[u8], chain: &[u8], chart: &[u16], role: u8, steps: &mut [u8]) -> Derivation
-    requires { ⌜ ((ρs : List Rule) × Searched ρs (now chain) (now table) (now chart)) × (role < 128) ⌝ }
-    ensures { λ r. ⌜ ((b : Book) → Searched (b .rules) (now (chain .entry)) (now (table .entry)) (now (chart .entry))
+    requires { ⌜ ((b : Book) × SearchedFor b role (now chain) (now table) (now chart)) ⌝ }
+    ensures { λ r. ⌜ ((b : Book) → SearchedFor b role (now (chain .entry)) (now (table .entry)) (now (chart .entry))
         → Gives b role (now (chain .entry)) (now (steps .entry)) (now (steps .exit)) r) ⌝ }
 {
     if steps.len() < 16384 {

@@ -20,9 +20,9 @@ struct Place {
 
 // Writes the steps from the role to the chain, and returns how many.
 pub(crate) fn trace(table: &[u8], chain: &[u8], chart: &[u16], role: u8, steps: &mut [u8]) -> usize
-    requires { ⌜ Ready (now table) (now chain) (now chart) ⌝ }
-    requires { ⌜ (role < 128) × Found (now chart) 0 (length (now chain)) role × (16384 ≤ length (now steps)) ⌝ }
-    ensures { λ r. ⌜ ((ready : Ready (now (table .entry)) (now (chain .entry)) (now (chart .entry)))
+    requires { ⌜ ((ready : Ready (now table) (now chain) (now chart)) × (role < ready .roles)) ⌝ }
+    requires { ⌜ Found (now chart) 0 (length (now chain)) role × (16384 ≤ length (now steps)) ⌝ }
+    ensures { λ r. ⌜ ((ready : Ready (now (table .entry)) (now (chain .entry)) (now (chart .entry))) → role < ready .roles
         → Traced ready role (now (steps .entry)) (now (steps .exit)) r) ⌝ }
 {
     let mut pending = [0u16; 16];
@@ -38,9 +38,9 @@ fn walk(
     pending: &mut [u16],
     steps: &mut [u8],
 ) -> usize
-    requires { ⌜ Ready (now table) (now chain) (now chart) ⌝ }
-    requires { ⌜ (role < 128) × Found (now chart) 0 (length (now chain)) role × (16384 ≤ length (now steps)) × (length (now pending) ≡ 16) ⌝ }
-    ensures { λ r. ⌜ ((ready : Ready (now (table .entry)) (now (chain .entry)) (now (chart .entry)))
+    requires { ⌜ ((ready : Ready (now table) (now chain) (now chart)) × (role < ready .roles)) ⌝ }
+    requires { ⌜ Found (now chart) 0 (length (now chain)) role × (16384 ≤ length (now steps)) × (length (now pending) ≡ 16) ⌝ }
+    ensures { λ r. ⌜ ((ready : Ready (now (table .entry)) (now (chain .entry)) (now (chart .entry))) → role < ready .roles
         → Traced ready role (now (steps .entry)) (now (steps .exit)) r) ⌝ }
 {
     pending[15] = pair(role, chain.len());
@@ -64,8 +64,8 @@ fn turn(
     pending: &mut [u16],
     steps: &mut [u8],
 ) -> Place
-    requires { ⌜ Ready (now table) (now chain) (now chart) ⌝ }
-    requires { ⌜ Pends (now chain) (now chart) (now pending) place × (place .top < 16) × (place .step < 4096) × (16384 ≤ length (now steps)) ⌝ }
+    requires { ⌜ ((ready : Ready (now table) (now chain) (now chart)) × Pends (ready .roles) (now chain) (now chart) (now pending) place) ⌝ }
+    requires { ⌜ (place .top < 16) × (place .step < 4096) × (16384 ≤ length (now steps)) ⌝ }
     ensures { λ r. ⌜ Turned (now (table .entry)) (now (chain .entry)) (now (chart .entry)) (now (steps .entry)) (now (pending .entry)) place
         (now (steps .exit)) (now (pending .exit)) r ⌝ }
 {

@@ -12,22 +12,22 @@ use Rattle.derivation_checker.proofs.follow.Statement.{statement}
 use Rattle.derivation_checker.proofs.follow.Tie as tie
 
 abbrev Inv-loop : tie.InvT-loop
-Inv-loop table rules role chain steps count links₀ size₀ k₀ links size k = (count ≡ length steps / 4) × Following table rules role steps links size k
+Inv-loop table role chain steps rules count links₀ size₀ k₀ links size k = (count ≡ length steps / 4) × Following table rules role steps links size k
 
 abbrev μ-loop : tie.MeasureT-loop
-μ-loop table rules role chain steps count links₀ size₀ k₀ links size k = count - k
+μ-loop table role chain steps rules count links₀ size₀ k₀ links size k = count - k
 
 returns : tie.Need-returns Inv-loop μ-loop
 returns c =
     let entry = c .before .before .before .before .args in
-    sym (checked-uneven (entry .rules) (rule-in (entry .table .now)) (entry .steps .now) (entry .role) (entry .chain .now)
+    sym (checked-uneven (entry .header .rules) (rule-in (entry .table .now)) (entry .steps .now) (entry .role) (entry .chain .now)
     (λ e. omega arith))
 
 loop-holds : tie.Need-loop-holds Inv-loop μ-loop
 loop-holds c =
     let start = c .before .before .before .before in
     let entry = start .args in
-    (refl, following-start (entry .table .now) (entry .rules) (entry .role) (entry .steps .now) _ (start .pre) (c .if1 .left) refl refl)
+    (refl, following-start (entry .table .now) (entry .header .rules) (entry .role) (entry .steps .now) _ (start .pre) (c .if1 .left) refl refl)
 
 step-of-requires : tie.Need-step-of-requires Inv-loop μ-loop
 step-of-requires c κs = omega arith

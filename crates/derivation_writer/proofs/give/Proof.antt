@@ -20,15 +20,18 @@ tells c = c .has .ensures ∙ ap (λ (m : ℕ). has m (length (c .before .before
 
 returns-2 : tie.Need-returns-2
 returns-2 c b q =
-    gives-none b _ _ (c .before .before .before .before .before .before .before .before .args .steps .now) (omega (arith, c .before .before .before .if1 .left)) q (test-failed _ _ (tells (c .before)) (c .if2 .taken))
+    gives-none b _ _ (c .before .before .before .before .before .before .before .before .args .steps .now) (omega (arith, c .before .before .before .if1 .left)) (q .searched) (test-failed _ _ (tells (c .before)) (c .if2 .taken))
 
 trace-requires : tie.Need-trace-requires
 trace-requires c κs =
     let entry = c .before .before .before .before .before .before .before .before .before in
-    (searched-ready (entry .pre .0 .1), (entry .pre .1, test-passed _ _ (tells (c .before .before)) (c .before .if2 .left), c .before .before .before .before .if1 .left))
+    let found = test-passed _ _ (tells (c .before .before)) (c .before .if2 .left) in
+    ((searched-ready (entry .pre .1 .searched), entry .pre .1 .named), (found, c .before .before .before .before .if1 .left))
 
 returns-3 : tie.Need-returns-3
-returns-3 c b q = gives-steps b _ _ _ (c .before .before .before .before .before .before .before .if1 .left) q (c .before .before .trace .ensures (searched-ready q))
+returns-3 c b q =
+    gives-steps b _ _ _ (c .before .before .before .before .before .before .before .if1 .left) (q .searched)
+    (c .before .before .trace .ensures (searched-ready (q .searched)) (q .named))
 
 pub give-spec : {M : Type 1} → statement M
 give-spec =

@@ -5,7 +5,7 @@ use native.Mathlib.Omega.{arith}
 use borrow.Author.Needs.{needs}
 use Rattle.book_questions.specs.RuleTable.{links-in}
 use Rattle.derivation_checker.specs.Applied.{written}
-use Rattle.derivation_checker.specs.AppliedLaws.{no-place, no-rule, no-side, no-right, no-room, taken, left-read, left-some, left-most}
+use Rattle.derivation_checker.specs.AppliedLaws.{no-place, no-rule, no-side, no-right, no-room, taken, taken-one, left-read, left-some, left-most}
 use Rattle.derivation_checker.proofs.step.apply.Statement.{statement}
 use Rattle.derivation_checker.proofs.step.apply.Tie as tie
 
@@ -32,28 +32,35 @@ most c =
     let start = c .before .before .before .before .before .before .before .before .before in
     left-most (start .pre) (written (start .args .step)) (omega arith) (omega arith)
 
+-- a left side of one role
 returns-5 : tie.Need-returns-5
 returns-5 c =
-    let start = c .before .before .before .before .before .before .before .before .before .before in
+    let start = c .before .before .before .before .before .before .before .before .before .before .before in
+    let right = c .before .before .before .if4 .left in
+    taken-one (start .pre) (written (start .args .step)) (omega arith) (omega arith) (omega arith) right (c .before .if5 .taken)
+
+returns-6 : tie.Need-returns-6
+returns-6 c =
+    let start = c .before .before .before .before .before .before .before .before .before .before .before in
     no-room (start .pre) (written (start .args .step)) (omega arith) (omega arith) (omega arith)
 
 -- it ends inside the table
 part-insert-end : tie.Need-part-insert-end
-part-insert-end c = omega (arith, most (c .before .before))
+part-insert-end c = omega (arith, most (c .before .before .before))
 
 -- it is not empty, and leaves at most 16 links
 insert-requires : tie.Need-insert-requires
 insert-requires c κs =
-    let start = c .before .before .before .before .before .before .before .before .before .before .before .before in
+    let start = c .before .before .before .before .before .before .before .before .before .before .before .before .before in
     let size = left-read (start .pre) (written (start .args .step)) (omega arith) (omega arith) in
     let some = left-some (start .pre) (written (start .args .step)) (omega arith) (omega arith) in
     (omega arith, (rw size some, rw size (omega (arith, start .pre .room))))
 
-returns-6 : tie.Need-returns-6
-returns-6 c =
+returns-7 : tie.Need-returns-7
+returns-7 c =
     let inserted = c .before .before in
-    let start = inserted .before .before .before .before .before .before .before .before .before .before .before .before .before in
-    let right = inserted .before .before .before .before .before .if4 .left in
+    let start = inserted .before .before .before .before .before .before .before .before .before .before .before .before .before .before in
+    let right = inserted .before .before .before .before .before .before .if4 .left in
     taken (start .pre) (written (start .args .step)) (omega arith) (omega arith) (omega arith) right (omega arith) _ _ refl (inserted .insert .ensures)
 
 pub apply-spec : {M : Type 1} → statement M
@@ -72,8 +79,13 @@ apply-spec =
     (λ c. search needs)
     (λ c. search needs)
     (λ c. omega (arith, most c))
-    (λ c. omega (arith, most c))
+    (λ c. search needs)
+    (λ c. search needs)
+    (λ c. search needs)
+    (λ c. search needs)
     returns-5
+    (λ c. omega (arith, most (c .before)))
+    returns-6
     (λ c. search needs)
     (λ c. search needs)
     (λ c. search needs)
@@ -83,4 +95,4 @@ apply-spec =
     (λ c. search needs)
     (λ c. search needs)
     (λ c. search needs)
-    returns-6)
+    returns-7)

@@ -1,12 +1,12 @@
 -- `shift` meets its contract. The invariant: the links from i on are moved.
 use mathlib.Core.Path.{_≡_, refl, _∙_}
 use Prim.Native.Nat.{_+_, _-_, _≤_}
-use native.Mathlib.Nat.{add-zero, sub-self}
+use native.Mathlib.Nat.{sub-self}
 use native.Mathlib.Omega.{arith}
 use borrow.Author.Needs.{needs}
 use lib.ListN.{length, length-set, drop}
 use lib.Seq.{paste, paste-zero}
-use Rattle.derivation_checker.specs.InsertionLaws.{paste-own, paste-next}
+use Rattle.derivation_checker.specs.InsertionLaws.{paste-next}
 use Rattle.derivation_checker.proofs.step.shift.Statement.{statement}
 use Rattle.derivation_checker.proofs.step.shift.Tie as tie
 
@@ -17,29 +17,23 @@ Inv-loop links₀ from end by i₀ links i =
 abbrev μ-loop : tie.MeasureT-loop
 μ-loop links₀ from end by i₀ links i = i
 
--- by no place
-returns : tie.Need-returns Inv-loop μ-loop
-returns c =
-    let entry = c .before .args in
-    rw (c .if1 .taken, add-zero) (paste-own (entry .links .now) (entry .from) (entry .end - entry .from))
-
 loop-holds : tie.Need-loop-holds Inv-loop μ-loop
 loop-holds c =
-    let entry = c .before .args in
+    let entry = c .args in
     (omega arith, omega arith, refl, rw sub-self (paste-zero (entry .links .now) (entry .end + entry .by) (drop (entry .end) (entry .links .now))))
 
 loop-again : tie.Need-loop-again Inv-loop μ-loop
 loop-again c =
     let inv = c .before .before .loop .inv in
-    let entry = c .before .before .before .before .args in (
+    let entry = c .before .before .before .args in (
       omega arith,
       omega arith,
       rw length-set (inv .2),
       paste-next (entry .links .now) _ (c .before .before .loop .i) (entry .by) (entry .end) (omega arith) (omega arith) (omega arith) (inv .3),
     )
 
-returns-2 : tie.Need-returns-2 Inv-loop μ-loop
-returns-2 c = let e : c .before .loop .i ≡ c .before .before .before .args .from = omega arith in c .before .loop .inv .3 ∙ rw e refl
+returns : tie.Need-returns Inv-loop μ-loop
+returns c = let e : c .before .loop .i ≡ c .before .before .args .from = omega arith in c .before .loop .inv .3 ∙ rw e refl
 
 pub shift-spec : {M : Type 1} → statement M
 shift-spec =
@@ -47,7 +41,6 @@ shift-spec =
     (tie.spec
     Inv-loop
     μ-loop
-    returns
     loop-holds
     (λ c. search needs)
     (λ c. search needs)
@@ -56,4 +49,4 @@ shift-spec =
     (λ c. search needs)
     loop-again
     (λ c. search needs)
-    returns-2)
+    returns)

@@ -11,6 +11,7 @@ use Rattle.base.specs.Reflects.{Reflects}
 use Rattle.name_sets.specs.Mask.{has, count}
 use Rattle.name_sets.specs.MemberLaws.{lowest, only-named, without-fewer}
 use Rattle.derivation_charts.specs.Chart.{Found, Splits}
+use Rattle.derivation_charts.specs.ReachLaws.{reach-one}
 use Rattle.derivation_writer.specs.Division.{Cutting}
 use Rattle.derivation_writer.specs.DivisionLaws.{cut-last, cutting-start, cutting-next, cutting-end, cut-found, read-behind}
 use Rattle.derivation_writer.proofs.division.cut.Statement.{statement}
@@ -35,26 +36,30 @@ low : (c : tie.In-loop Inv-loop μ-loop) → (trailingZeros 64 (c .before .loop 
 low c = lowest 64 (c .before .loop .rest) (let h = c .loop-test .taken in omega arith) (c .before .loop .inv .fits)
 
 -- what is reached from there tells whether the roles behind go on to the end
-tells : (c : tie.After-has Inv-loop μ-loop) → Reflects (c .has .result) (Splits (Found (c .before .before .before .before .before .before .before .before .before .before .args .chart .now)) (drop (c .before .before .before .before .before .before .before .before .before .before .args .t + 1) (c .before .before .before .before .before .before .before .before .before .before .args .left .now)) (trailingZeros 64 (c .before .before .before .before .loop .rest)) (c .before .before .before .before .before .before .before .before .before .before .args .end))
+tells : (c : tie.After-has Inv-loop μ-loop)
+    → let entry = c .before .before .before .before .before .before .before .before .before .before .before in
+    let low-place = trailingZeros 64 (c .before .before .before .before .before .loop .rest) in
+    Reflects (c .has .result) (Splits (Found (entry .args .chart .now)) (drop (entry .args .t + 1) (entry .args .left .now)) low-place (entry .args .end))
 tells c =
-    let entry = c .before .before .before .before .before .before .before .before .before .before in
-    subst (λ (v : List ℕ). Reflects (c .has .result) (Splits (Found (entry .args .chart .now)) v (trailingZeros 64 (c .before .before .before .before .loop .rest)) (entry .args .end))) (read-behind (entry .args .left .now) (entry .args .t + 1))
-    (rw (c .has .ensures) (c .before .reach .ensures (entry .args .end) (entry .pre .0 .1)))
+    let entry = c .before .before .before .before .before .before .before .before .before .before .before in
+    let low-place = trailingZeros 64 (c .before .before .before .before .before .loop .rest) in
+    subst (λ (v : List ℕ). Reflects (c .has .result) (Splits (Found (entry .args .chart .now)) v low-place (entry .args .end))) (read-behind (entry .args .left .now) (entry .args .t + 1))
+    (reach-one _ _ low-place _ (low (c .before .before .before .before) .0) (rw (c .has .ensures, ← c .before .before .before .single .ensures) (c .before .reach .ensures (entry .args .end) (entry .pre .0 .1))))
 
 returns-2 : tie.Need-returns-2 Inv-loop μ-loop
 returns-2 c =
-    let turn = c .before .before .before .before in
+    let turn = c .before .before .before .before .before in
     cut-found (turn .before .loop .inv) _ (low turn .0) (low turn .1) (tells (c .before) .holds (c .if2 .taken))
 
 loop-less : tie.Need-loop-less Inv-loop μ-loop
 loop-less c =
     let turn = c .before .before .before .before .before in
-    rw (c .single .ensures, only-named _ (low turn .0)) (without-fewer _ _ (low turn .0) (low turn .1))
+    rw (c .before .before .before .before .single .ensures, only-named _ (low turn .0)) (without-fewer _ _ (low turn .0) (low turn .1))
 
 loop-again : tie.Need-loop-again Inv-loop μ-loop
 loop-again c =
     let turn = c .before .before .before .before .before in
-    rw (c .single .ensures, only-named _ (low turn .0)) (cutting-next (turn .before .loop .inv) _ (low turn .0) (low turn .1) (tells (c .before .before) .fails (c .before .if2 .left)))
+    rw (c .before .before .before .before .single .ensures, only-named _ (low turn .0)) (cutting-next (turn .before .loop .inv) _ (low turn .0) (low turn .1) (tells (c .before) .fails (c .if2 .left)))
 
 returns-3 : tie.Need-returns-3 Inv-loop μ-loop
 returns-3 c = absurd (cutting-end (c .before .loop .inv) (c .loop-test .left))
@@ -71,13 +76,13 @@ cut-spec =
     (λ c κs. search needs)
     loop-holds
     (λ c. omega (arith, low c .0))
+    (λ c κs. search needs)
     (λ c. search needs)
     (λ c. search needs)
     (λ c. search needs)
     (λ c κs. search needs)
     (λ c κs. search needs)
     returns-2
-    (λ c κs. search needs)
     loop-less
     loop-again
     returns-3)

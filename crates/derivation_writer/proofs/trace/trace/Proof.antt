@@ -4,10 +4,12 @@ use Rattle.derivation_writer.proofs.trace.trace.Statement.{statement}
 use Rattle.derivation_writer.proofs.trace.trace.Tie as tie
 
 walk-requires : tie.Need-walk-requires
-walk-requires c κs = let pre = c .before .before .before .before .before .before .pre in (pre .0, (pre .1 .0, pre .1 .1, pre .1 .2, refl))
+walk-requires c κs = let pre = c .before .before .before .before .before .before .pre in (pre .0, (pre .1 .0, pre .1 .1, refl))
 
 same-length : tie.Need-same-length
-same-length c = c .before .before .before .walk .ensures (c .before .before .before .before .before .before .before .before .before .before .pre .0) .size
+same-length c =
+    let asked = c .before .before .before .before .before .before .before .before .before .before .pre .0 in
+    c .before .before .before .walk .ensures (asked .0) (asked .1) .size
 
 returns : tie.Need-returns
 returns c = c .before .before .before .walk .ensures
