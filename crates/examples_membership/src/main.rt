@@ -1,18 +1,24 @@
 // Tries the answerer on document 01's questions, on tables that no book gave and on every edge of causes 12 to 14; then compares it with a
-// second method, which decides derivation from the rules alone, and shows differences that it must find. `stdin` holds what is tried, a line each;
-// `stdout` holds what the program must write.
+// second method, which decides derivation from the rules alone, and shows differences that it must find. Tries the writer and the checker of
+// derivations on every edge of their causes, the writer beside the answerer, and the checker beside a second reading.
+// `stdin` holds what is tried, a line each; `stdout` holds what the program must write.
 mod chain;
 mod compare;
 mod counts;
+mod damage;
+mod derivations;
 mod draw;
 mod lent_tables;
 mod make;
 mod questions;
+mod reading;
 mod rules;
 mod script;
+mod script_derivations;
 mod script_numbers;
 mod second;
 mod trial;
+mod written;
 
 use byte_parts::find;
 use byte_parts::part;

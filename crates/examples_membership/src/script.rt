@@ -1,7 +1,11 @@
 // What a line of the script asks for. It begins with a letter; then come a text, a bar and lists of numbers, each with its length first.
 use crate::compare::said;
 use crate::counts::tell;
+use crate::derivations::try_derivations;
 use crate::lent_tables::build;
+use crate::script_derivations::ask_checker;
+use crate::script_derivations::ask_short;
+use crate::script_derivations::ask_writer;
 use crate::script_numbers::numbers_of;
 use crate::script_numbers::read_list;
 use crate::script_numbers::read_number;
@@ -19,7 +23,11 @@ pub(crate) fn try_line(s: &[u8]) {
         b'a' => ask_tables(numbers),
         b'e' => ask_every(numbers),
         b's' => try_made(),
-        b'#' => tell(b"\n", [0u64; 32]),
+        b'w' => ask_writer(numbers),
+        b'b' => ask_short(numbers),
+        b'c' => ask_checker(numbers),
+        b'd' => try_derivations(),
+        b'#' => tell(b"\n", [0u64; 64]),
         _ => {}
     }
 }
@@ -50,9 +58,9 @@ fn ask_tables(s: &[u8]) {
 // What a question is answered with, in document 01's words and numbers.
 fn tell_answer(answer: u64) {
     match answer {
-        0 => tell(b": no\n", [0u64; 32]),
-        1 => tell(b": yes\n", [0u64; 32]),
-        _ => tell(b": refused \x80\n", [answer; 32]),
+        0 => tell(b": no\n", [0u64; 64]),
+        1 => tell(b": yes\n", [0u64; 64]),
+        _ => tell(b": refused \x80\n", [answer; 64]),
     }
 }
 
@@ -70,7 +78,7 @@ fn ask_every(s: &[u8]) {
         true,
         questions.value as u64,
         0,
-        [0u64; 32],
+        [0u64; 64],
     );
     let counts = trial.counts;
     tell(b": asked \x89, agreed \x8A, yes \x8B\n", counts);
