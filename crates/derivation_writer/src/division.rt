@@ -38,7 +38,7 @@ pub(crate) fn rule_by(chart: &[u16], i: usize, end: usize, role: u8) -> usize
     requires { ⌜ (274 * role + 274 ≤ length (now chart)) × (i < end) × (end ≤ 16) ⌝ }
     ensures { λ r. ⌜ r ≡ by (now (chart .entry)) i end role ⌝ }
 {
-    chart[274 * role as usize + 17 + (16 * i + (end - 1))] as usize
+    chart[274 * role as usize + 18 + (16 * i + (end - 1))] as usize
 }
 
 // The left side of the completed rule q.
