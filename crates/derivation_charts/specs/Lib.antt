@@ -2,4 +2,4 @@ pub mod Chart
 pub mod SplitsLaws
 pub mod CompleteLaws
 pub mod Reach
-pub mod ReachLaws
+pub mod ReachingLaws

@@ -1,19 +1,11 @@
 -- What checking a written derivation of a chain from a role by a book gives: causes 1 to 8, 13 to 15 and 17, else whether its steps lead there.
 use mathlib.Core.Bool.{Bool}
 use mathlib.Core.List.{List}
-use mathlib.Core.Path.{_≡_}
-use Prim.Native.Nat.{ℕ, _*_, _≤_}
-use lib.ListN.{length}
+use Prim.Native.Nat.{ℕ}
 use Rattle.base.specs.Result.{Result, and-then}
-use Rattle.base.specs.Result.Result.{ok}
 use Rattle.roles.specs.Role.{Chain}
-use Rattle.roles.specs.Rule.{Book}
 use Rattle.derivation_steps.specs.WrittenSteps.{derivation}
 use Rattle.book_questions.specs.ShortQuestion.{asked-book}
 
 unfoldable pub checked-derivation : List ℕ → ℕ → Chain → List ℕ → Result Bool
 checked-derivation s r w steps = and-then (asked-book s r w) (λ b. derivation (b .rules) r w steps)
-
--- so many numbers are room for the completed rules of the book that is asked
-abbrev pub Roomy : List ℕ → ℕ → Chain → ℕ → Type 0
-Roomy s r w size = (b : Book) → asked-book s r w ≡ ok b → 32 * length (b .rules) ≤ size

@@ -20,7 +20,8 @@ use Rattle.book_questions.specs.ShortQuestionLaws.{asked}
 use Rattle.book_questions.specs.RuleTable.{rule-in, Rules, Tabled}
 use Rattle.book_questions.specs.Admission.{Admits, says}
 use Rattle.book_questions.specs.declared.Admission.{Admission}
-use Rattle.derivation_checker.specs.CheckedDerivation.{checked-derivation, Roomy}
+use Rattle.derivation_checker.specs.CheckedDerivation.{checked-derivation}
+use Rattle.derivation_checker.specs.CheckingRoom.{Roomy}
 
 -- a table of the rules gives what the rules give
 tabled-checked : (ρs : List Rule) (roles : ℕ) (table : List ℕ) → Tabled ρs roles table → (r : ℕ) (w : Chain) (steps : List ℕ)

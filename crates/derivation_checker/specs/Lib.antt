@@ -1,4 +1,5 @@
 pub mod CheckedDerivation
+pub mod CheckingRoom
 pub mod Applied
 pub mod InsertionLaws
 pub mod AppliedLaws

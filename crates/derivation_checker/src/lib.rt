@@ -7,7 +7,8 @@ ghost use Rattle.roles.specs.Role.{same-chain};
 ghost use Rattle.derivation_steps.specs.WrittenSteps.{checked};
 ghost use Rattle.book_questions.specs.RuleTable.{Rules, rule-in};
 ghost use Rattle.book_questions.specs.Admission.{answers};
-ghost use Rattle.derivation_checker.specs.CheckedDerivation.{checked-derivation, Roomy};
+ghost use Rattle.derivation_checker.specs.CheckedDerivation.{checked-derivation};
+ghost use Rattle.derivation_checker.specs.CheckingRoom.{Roomy};
 
 mod step;
 

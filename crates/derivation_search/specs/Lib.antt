@@ -8,7 +8,7 @@ pub mod SpreadingLaws
 pub mod Progress
 pub mod TakenLaws
 pub mod ProgressLaws
-pub mod Writes
-pub mod WritesLaws
+pub mod ChartWrites
+pub mod ChartWritesLaws
 pub mod Listing
 pub mod SearchedLaws

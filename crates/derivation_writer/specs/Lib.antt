@@ -1,4 +1,5 @@
 pub mod WritesDerivation
+pub mod WritingStages
 pub mod Pending
 pub mod PendingLaws
 pub mod Division

@@ -3,7 +3,7 @@
 use mathlib.Core.Bool.{true}
 use mathlib.Core.List.{List}
 use mathlib.Core.Path.{_≡_}
-use Prim.Native.Nat.{ℕ, _*_, _<_, _≤_}
+use Prim.Native.Nat.{ℕ, _*_, _≤_}
 use lib.Dec.{leb}
 use lib.ListN.{length}
 use Rattle.base.specs.Result.{Result, demand, and-then}
@@ -12,12 +12,10 @@ use Rattle.base.specs.Writing.{over}
 use Rattle.roles.specs.Role.{Chain}
 use Rattle.roles.specs.Rule.{Book}
 use Rattle.roles.specs.Derivation.{Derives}
-use Rattle.book_format.specs.DecodeLaws.{Decoded}
 use Rattle.refusals.specs.declared.book_query.BookQueryRefusal.{BookQueryRefusal}
 use Rattle.refusals.specs.BookQueryRefusals.{book-query-cause, book-query-value}
 use Rattle.derivation_steps.specs.WrittenSteps.{derivation}
 use Rattle.book_questions.specs.ShortQuestion.{asked-book}
-use Rattle.derivation_search.specs.Searched.{Searched}
 use Rattle.derivation_writer.specs.declared.Derivation.{Derivation}
 use Rattle.derivation_writer.specs.declared.Derivation.the-variants.{Steps, None, Refused}
 
@@ -36,16 +34,3 @@ pub data Writes (checks : Result Book) (r : ℕ) (w : Chain) (old : List ℕ) : 
   no : (b : Book) → checks ≡ ok b → (Derives (b .rules) r w → ⊥) → Writes checks r w old old None
   steps : (b : Book) → checks ≡ ok b → (s : List ℕ) (n : ℕ) → length s ≡ 4 * n → n ≤ 4096 → derivation (b .rules) r w s ≡ ok true
       → Writes checks r w old (over s old) (Steps n)
-
--- so many numbers are room for the rules of a book and for a chart over its roles
-abbrev pub Roomy : List ℕ → (table chart : ℕ) → Type 0
-Roomy s table chart = (b : Book) → Decoded s b → (32 * length (b .rules) ≤ table) × (291 * (2 * b .names) ≤ chart)
-
--- what is searched for a question that names a role of a book
-pub record SearchedFor (b : Book) (r : ℕ) (w : Chain) (table chart : List ℕ) : Type 0 where
-  pub named : r < 2 * b .names
-  pub searched : Searched (b .rules) (2 * b .names) w table chart
-
--- what is left to promise for a book that is asked
-abbrev pub Gives : Book → ℕ → Chain → List ℕ → List ℕ → Derivation → Type 0
-Gives b r w old = Writes (lent-enough (length old) b) r w old

@@ -30,7 +30,8 @@ use Rattle.book_questions.specs.declared.Admission.{Admission}
 use Rattle.book_questions.specs.declared.Admission.the-variants.{Admitted, Refused as Refused-admission}
 use Rattle.book_questions.specs.Admission.{says}
 use Rattle.derivation_search.specs.Searched.{Searched, Searches}
-use Rattle.derivation_writer.specs.WritesDerivation.{lent-enough, writable, Writes, Roomy, SearchedFor, Gives}
+use Rattle.derivation_writer.specs.WritesDerivation.{lent-enough, writable, Writes}
+use Rattle.derivation_writer.specs.WritingStages.{Roomy, SearchedFor, Gives}
 use Rattle.derivation_writer.specs.WritesDerivation.Writes.{refuses, no, steps}
 use Rattle.derivation_writer.specs.Tracing.{Ready, Traced}
 use Rattle.derivation_writer.specs.declared.Derivation.the-variants.{Steps, None, Refused}

@@ -1,7 +1,8 @@
 // Writes a derivation out: the steps from a role to a chain, from a chart of the roles that derive its parts.
 ghost use lib.ListN.{length};
 ghost use Rattle.roles.specs.Rule.{Book};
-ghost use Rattle.derivation_writer.specs.WritesDerivation.{writable, Writes, Roomy, SearchedFor, Gives};
+ghost use Rattle.derivation_writer.specs.WritesDerivation.{writable, Writes};
+ghost use Rattle.derivation_writer.specs.WritingStages.{Roomy, SearchedFor, Gives};
 
 mod division;
 mod trace;

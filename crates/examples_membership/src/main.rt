@@ -11,12 +11,12 @@ mod draw;
 mod lent_tables;
 mod make;
 mod questions;
-mod reading;
 mod rules;
 mod script;
 mod script_derivations;
 mod script_numbers;
 mod second;
+mod slow_reading;
 mod trial;
 mod written;
 

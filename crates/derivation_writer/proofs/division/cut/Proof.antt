@@ -11,7 +11,7 @@ use Rattle.base.specs.Reflects.{Reflects}
 use Rattle.name_sets.specs.Mask.{has, count}
 use Rattle.name_sets.specs.MemberLaws.{lowest, only-named, without-fewer}
 use Rattle.derivation_charts.specs.Chart.{Found, Splits}
-use Rattle.derivation_charts.specs.ReachLaws.{reach-one}
+use Rattle.derivation_charts.specs.ReachingLaws.{reach-one}
 use Rattle.derivation_writer.specs.Division.{Cutting}
 use Rattle.derivation_writer.specs.DivisionLaws.{cut-last, cutting-start, cutting-next, cutting-end, cut-found, read-behind}
 use Rattle.derivation_writer.proofs.division.cut.Statement.{statement}

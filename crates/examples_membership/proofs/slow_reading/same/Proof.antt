@@ -1,8 +1,8 @@
 -- `same` is safe and ends.
 use Prim.Native.Nat.{_-_}
 use borrow.Author.Needs.{needs}
-use Rattle.examples_membership.proofs.reading.same.Statement.{statement}
-use Rattle.examples_membership.proofs.reading.same.Tie as tie
+use Rattle.examples_membership.proofs.slow_reading.same.Statement.{statement}
+use Rattle.examples_membership.proofs.slow_reading.same.Tie as tie
 
 abbrev Inv-loop : tie.InvT-loop
 Inv-loop links chain roles equal₀ i₀ equal i = Unit

@@ -1,8 +1,8 @@
 -- `replaced` is safe and ends.
 use Prim.Native.Nat.{_-_}
 use borrow.Author.Needs.{needs}
-use Rattle.examples_membership.proofs.reading.replaced.Statement.{statement}
-use Rattle.examples_membership.proofs.reading.replaced.Tie as tie
+use Rattle.examples_membership.proofs.slow_reading.replaced.Statement.{statement}
+use Rattle.examples_membership.proofs.slow_reading.replaced.Tie as tie
 
 abbrev Inv-loop : tie.InvT-loop
 Inv-loop before place rule old roles₀ i₀ roles i = Unit

@@ -2,8 +2,8 @@
 use Prim.Native.Nat.{_-_}
 use lib.ListN.{length}
 use borrow.Author.Needs.{needs}
-use Rattle.examples_membership.proofs.reading.read.Statement.{statement}
-use Rattle.examples_membership.proofs.reading.read.Tie as tie
+use Rattle.examples_membership.proofs.slow_reading.read.Statement.{statement}
+use Rattle.examples_membership.proofs.slow_reading.read.Tie as tie
 
 abbrev Inv-loop : tie.InvT-loop
 Inv-loop rules count role chain steps links₀ at₀ links at = Unit
