@@ -826,7 +826,7 @@ class Page(WithEngine):
                 told = run(*shlex.split(command))
                 self.assertEqual(told.errors + told.output, shown, command)
                 tried += 1
-        self.assertEqual(tried, 7)
+        self.assertEqual(tried, 8)
 
 
 class EngineRun(InFolder):
