@@ -198,6 +198,14 @@ module _ {chart : List ℕ} {left : Chain} {i j : ℕ} {old : List ℕ} {first :
             ap (drop first) (d .stored ∙ (sets-eq (d .pairs) old first (omega (arith, past)) ∙ append-assoc (take first old) (d .pairs) _))
             ∙ (drop-at (take first old) _ first (length-take-le first old (omega arith)) ∙ rw past refl)
 
+-- a left side of one role has the whole part
+pub divided-one : {chart : List ℕ} {left : Chain} {i j : ℕ} {old : List ℕ} {top : ℕ} → length left ≡ 1 → getD left 0 0 < 128 → j < 64
+    → Splits (Found chart) left i j → top < length old → Divided chart left i j old top (set old top (128 * j + getD left 0 0)) top
+divided-one {chart} {left} {i} {j} {old} {top} one low near s room =
+    let stored : Dividing chart left i j old top 1 j (set old (top + 0) (128 * j + getD left 0 0))
+    = dividing-next (dividing-start s) (omega arith) low (cut-last (sym one) near s) in
+    dividing-end (rw (let e : top + 0 ≡ top = omega arith in e) at stored) (omega arith) (omega arith) room
+
 -- what stands of a part: not a single link, or its only link beside a role
 pub stands-not : {A : Type 0} (i j : ℕ) → (j - i ≡ 1 → ⊥) → Reflects false ((j ≡ i + 1) × A)
 stands-not i j n = decides-no _ (λ h. n (omega (arith, h .0)))

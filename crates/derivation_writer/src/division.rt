@@ -74,6 +74,10 @@ pub(crate) fn divide(
     requires { ⌜ Splits (Found (now chart)) (now left) from end ⌝ }
     ensures { λ r. ⌜ Divided (now (chart .entry)) (now (left .entry)) from end (now (pending .entry)) top (now (pending .exit)) r ⌝ }
 {
+    if left.len() == 1 {
+        pending[top] = pair(left[0], end);
+        return top;
+    }
     let first = top + 1 - left.len();
     let mut i = from;
     let mut t = 0;

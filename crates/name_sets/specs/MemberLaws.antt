@@ -2,11 +2,11 @@
 use mathlib.Core.Bool.{true, false, cond, not, _&&_}
 use mathlib.Core.Logic.{_⊎_, inl, inr}
 use mathlib.Core.Path.{_≡_, refl, sym, ap, _∙_}
-use Prim.Native.Nat.{ℕ, zero, suc, _+_, _*_, _/_, _%_, _^_, _<_, _≤_}
-use native.Mathlib.Nat.{one-mul, mod-lt, div-one, div-eq-of-lt, lt-of-lt-of-le}
+use Prim.Native.Nat.{ℕ, zero, suc, _+_, _-_, _*_, _/_, _%_, _^_, _<_, _≤_}
+use native.Mathlib.Nat.{one-mul, mod-lt, pow-suc, div-one, div-eq-of-lt, lt-of-lt-of-le}
 use native.Mathlib.Omega.{arith}
 use borrow.Author.Tests.{eq-eqb, ne-eqb, lt-ltb, le-ltb}
-use lib.Bits.{bitAnd, bitXor, and-mask, and-shr, and-mod, xor-shr, xor-mod}
+use lib.Bits.{bitAnd, bitXor, and-mask, and-shr, and-mod, xor-shr, xor-mod, and-step, xor-step, and-self, xor-zero-r}
 use lib.Count.{trailingZeros, under}
 use lib.Dec.{eqb, lit<}
 use lib.Pow.{pow-mono, shl-exact, shr-lt}
@@ -85,4 +85,26 @@ lowest (suc k) m p h = by-digit (m % 2) refl (lowest k (m / 2))
         let b = below (omega arith) (shr-lt k 1 (let e : k + 1 ≡ suc k = omega arith in rw e h)) in
         (omega (arith, b .0), sym (has-half m (trailingZeros k (m / 2))) ∙ b .1)
     by-digit (suc zero) e below = (omega arith, has-odd m e)
+    by-digit (suc (suc d)) e below = absurd (let f : ⊥ = omega (arith, mod-lt m {m = 2} (lit< tt)) in f)
+
+-- a set without its lowest name
+pub lowest-out : (k m : ℕ) → 0 < m → m < 2 ^ k → bitAnd m (m - 1) ≡ bitXor m (2 ^ trailingZeros k m)
+unfolding trailingZeros
+lowest-out zero m p h = absurd (let f : ⊥ = omega arith in f)
+lowest-out (suc k) m p h = by-digit (m % 2) refl (lowest-out k (m / 2))
+  where
+    by-digit : (d : ℕ) → m % 2 ≡ d → (0 < m / 2 → m / 2 < 2 ^ k → bitAnd (m / 2) (m / 2 - 1) ≡ bitXor (m / 2) (2 ^ trailingZeros k (m / 2)))
+        → bitAnd m (m - 1) ≡ bitXor m (2 ^ under d (trailingZeros k (m / 2)))
+    by-digit zero e below =
+        let half : (m - 1) / 2 ≡ m / 2 - 1 = omega arith in
+        let odd : (m - 1) % 2 ≡ 1 = omega arith in
+        let t = trailingZeros k (m / 2) in
+        let pow-half : 2 ^ suc t / 2 ≡ 2 ^ t = omega (arith, pow-suc 2 t) in
+        let pow-even : 2 ^ suc t % 2 ≡ 0 = omega (arith, pow-suc 2 t) in
+        rw (and-step m (m - 1), xor-step m (2 ^ suc t), e, half, odd, pow-half, pow-even)
+        (ap (λ (x : ℕ). x * 2 + 0) (below (omega arith) (shr-lt k 1 (let e : k + 1 ≡ suc k = omega arith in rw e h))))
+    by-digit (suc zero) e below =
+        let half : (m - 1) / 2 ≡ m / 2 = omega arith in
+        let even : (m - 1) % 2 ≡ 0 = omega arith in
+        rw (and-step m (m - 1), xor-step m 1, e, half, even, and-self (m / 2), xor-zero-r (m / 2)) refl
     by-digit (suc (suc d)) e below = absurd (let f : ⊥ = omega (arith, mod-lt m {m = 2} (lit< tt)) in f)
