@@ -44,7 +44,7 @@ tells c =
     let entry = c .before .before .before .before .before .before .before .before .before .before .before in
     let low-place = trailingZeros 64 (c .before .before .before .before .before .loop .rest) in
     subst (λ (v : List ℕ). Reflects (c .has .result) (Splits (Found (entry .args .chart .now)) v low-place (entry .args .end))) (read-behind (entry .args .left .now) (entry .args .t + 1))
-    (reach-one _ _ low-place _ (low (c .before .before .before .before) .0) (rw (c .has .ensures, ← c .before .before .before .single .ensures) (c .before .reach .ensures (entry .args .end) (entry .pre .0 .1))))
+    (reach-one _ _ low-place _ (low (c .before .before .before .before) .0) (rw (c .has .ensures, ← c .before .before .before .single .ensures) (c .before .reach .ensures (entry .args .end))))
 
 returns-2 : tie.Need-returns-2 Inv-loop μ-loop
 returns-2 c =
