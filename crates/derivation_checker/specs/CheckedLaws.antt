@@ -47,7 +47,7 @@ module _ {s : List ℕ} {r : ℕ} {w : Chain} {table table′ : List ℕ} {a : A
     book = map-ok header-of (asked-book s r w) (sym e ∙ h .answer)
 
     tabled : Tabled (book .0 .rules) (2 * book .0 .names) table′
-    tabled = h .tabled (book .0) (book .1) (roomy (book .0) (book .1))
+    tabled = h .filled (book .0) (book .1) (roomy (book .0) (book .1)) .tabled
 
     pub rules-tabled : Rules table′ (header .rules) (2 * header .names)
     rules-tabled = rw (book .2) (tabled .rules)
