@@ -96,11 +96,11 @@ module _ {s : List ℕ} {r : ℕ} {w : Chain} {table table′ chart chart′ : L
       → Writes (writable (length old) s r w) r w old old (Refused refusal)
   writes-refused {refusal} e old =
       refuses refusal
-      (writable-from s r w (length old) _ (map-refused header-of (asked-book s r w) (ap says (sym e) ∙ q .answer)))
+      (writable-from s r w (length old) _ (map-refused header-of (asked-book s r w) (ap says (sym e) ∙ q .admits .answer)))
 
   module _ (room : Roomy s (length table) (length chart)) {header : Header} (e : a ≡ Admitted header) where
     book : (b : Book) × (asked-book s r w ≡ ok b) × (header ≡ header-of b)
-    book = map-ok header-of (asked-book s r w) (ap says (sym e) ∙ q .answer)
+    book = map-ok header-of (asked-book s r w) (ap says (sym e) ∙ q .admits .answer)
 
     book-searched : SearchedFor (book .0) r w table′ chart′
     book-searched =
