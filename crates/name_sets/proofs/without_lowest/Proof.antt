@@ -1,7 +1,6 @@
 -- `without_lowest` meets its contract: one less turns the lowest bit and those below it, and no other.
 use mathlib.Core.Path.{refl}
 use native.Mathlib.Omega.{arith}
-use lib.Bits.{bitXor}
 use lib.Count.{trailingZeros}
 use Rattle.name_sets.specs.Mask.{only}
 use Rattle.name_sets.specs.MemberLaws.{lowest, lowest-out, only-named}
