@@ -1,15 +1,13 @@
 -- The rules of a number and a side are the rules of the completion.
 use mathlib.Core.List.{List, [], _∷_, _++_, map, List·Memᴰ, Memᴰ·append-left, Memᴰ·append-right, Memᴰ·map, Memᴰ·of-map}
 use mathlib.Core.List.{List·Memᴰ·append-cases, List·Memᴰ·cases-cons, List·Memᴰ·not-nil}
-use mathlib.Core.List.List·Memᴰ.{List·Memᴰ·head, List·Memᴰ·tail}
 use mathlib.Core.Logic.{_⊎_, inl, inr}
-use mathlib.Core.Path.{_≡_, refl, sym, ap, _∙_}
-use Prim.Native.Nat.{ℕ, zero, suc, _<_, _≤_}
-use native.Mathlib.Nat.{not-suc-le-zero}
+use mathlib.Core.Path.{_≡_, sym, ap, _∙_}
+use Prim.Native.Nat.{ℕ, suc, _<_, _≤_}
 use native.Mathlib.Omega.{arith}
 use lib.Dec.{eqb}
 use lib.ListN.{length, getD}
-use Rattle.base.specs.Every.{cond-both}
+use Rattle.base.specs.Every.{getD-member, cond-both}
 use Rattle.roles.specs.RoleLaws.{length-inv-chain}
 use Rattle.roles.specs.Rule.{Rule, inverse, completion}
 use Rattle.derivation_steps.specs.WrittenSteps.{completed}
@@ -21,11 +19,6 @@ pub record Numbered (ρs : List Rule) (ρ : Rule) : Type 0 where
   pub listed : number < length ρs
   pub sided : side ≤ 1
   pub same : completed ρs number side ≡ ρ
-
-getD-member : {A : Type 0} (l : List A) (k : ℕ) (d : A) → k < length l → List·Memᴰ (getD l k d) l
-getD-member [] k d h = absurd (not-suc-le-zero h)
-getD-member (a ∷ l) zero d h = List·Memᴰ·head refl
-getD-member (a ∷ l) (suc k) d h = List·Memᴰ·tail (getD-member l k d (omega arith))
 
 member-place : {A : Type 0} (l : List A) (a d : A) → List·Memᴰ a l → (k : ℕ) × (k < length l) × (getD l k d ≡ a)
 member-place [] a d m = absurd (List·Memᴰ·not-nil m)

@@ -9,7 +9,7 @@ use native.Mathlib.Omega.{arith}
 use borrow.Author.Tests.{eqb-true, eqb-false}
 use lib.Bits.{bitXor, xor-lt}
 use lib.Dec.{eqb}
-use lib.ListN.{length, getD, take, drop, set, length-set, length-drop, length-map, drop-of-length-le}
+use lib.ListN.{length, getD, take, drop, set, length-set, length-map, drop-of-length-le}
 use lib.Pow.{pow-lt}
 use lib.Seq.{sets, sets-eq, length-sets, drop-cons, drop-at, take-suc, take-all, length-take-le, getD-set-same, getD-set-other}
 use Rattle.base.specs.Reflects.{Reflects, decides-no}
@@ -219,7 +219,3 @@ pub left-read : (table : List ℕ) (q : ℕ)
 left-read table q =
     let e : 16 * q ≡ entry (q / 2) (q % 2) = omega arith in
     rw e (slice-left table (q / 2) (q % 2))
-
--- all that stands behind a place, as a slice reads it
-pub read-behind : (s : List ℕ) (k : ℕ) → take (length s - k) (drop k s) ≡ drop k s
-read-behind s k = take-all (length s - k) (drop k s) (simp length-drop (omega arith))

@@ -6,8 +6,7 @@ use Prim.Native.Nat.{ℕ, _+_, _-_, _<_, _≤_}
 use native.Mathlib.Omega.{arith}
 use borrow.Author.Tests.{le-leb, lt-leb, leb-true, leb-false}
 use lib.Dec.{leb}
-use lib.ListN.{length, take, drop, length-drop}
-use lib.Seq.{take-all}
+use lib.ListN.{length, drop, length-drop}
 use Rattle.byte_parts.specs.Bytes.{between}
 use Rattle.byte_parts.specs.BytesLaws.{between-past, between-none}
 use Rattle.words.specs.Word.{word}
@@ -46,7 +45,3 @@ module _ (q : List ℕ) (at : ℕ) where
       by-size : (t : Bool) → leb 3 size ≡ t → between 3 size (drop at q) ≡ []
       by-size true e = between-past 3 size (drop at q) (omega (arith, h, length-drop at q, leb-true 3 size e))
       by-size false e = between-none 3 size (drop at q) (omega (arith, leb-false 3 size e))
-
-  -- the bytes from a place on
-  pub all-left : take (length q - at) (drop at q) ≡ drop at q
-  all-left = take-all (length q - at) (drop at q) (omega (arith, length-drop at q))

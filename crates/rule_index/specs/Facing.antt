@@ -1,11 +1,10 @@
 -- The row that one shape adds to a fragment, and the inner roles of a rule as an index has them.
 use mathlib.Core.List.{List, [], _∷_, List·Memᴰ}
-use mathlib.Core.List.List·Memᴰ.{List·Memᴰ·head, List·Memᴰ·tail}
 use mathlib.Core.Path.{_≡_, refl, sym, _∙_, subst}
 use Prim.Native.Nat.{ℕ, zero, suc, _+_, _*_, _<_, _≤_}
-use native.Mathlib.Nat.{not-suc-le-zero, le-of-suc-le-suc}
 use native.Mathlib.Omega.{arith}
 use lib.ListN.{length, getD}
+use Rattle.base.specs.Every.{getD-member}
 use Rattle.base.specs.Part.{getD-part, length-part}
 use Rattle.roles.specs.Role.{Chain, name}
 use Rattle.roles.specs.Rule.{Rule}
@@ -32,12 +31,6 @@ module _ (size : ℕ → ℕ) (inside : ℕ → ℕ → List Transition) (i : �
   unfolding rows-size rows-transitions
   no-row p k m = (laid-none p k m, laid-none p k m)
 
--- a link is a member
-link-member : (w : Chain) (k : ℕ) → k < length w → List·Memᴰ (getD w k 0) w
-link-member [] k h = absurd (not-suc-le-zero h)
-link-member (s ∷ w) zero h = List·Memᴰ·head refl
-link-member (s ∷ w) (suc k) h = List·Memᴰ·tail (link-member w k (le-of-suc-le-suc h))
-
 shape-row : (κ f t : ℕ) (w : Chain) → 2 ≤ κ → shape-by κ f t w ≡ row (end-at f) (end-at t) w
 shape-row zero f t w h = absurd (let g : ⊥ = omega arith in g)
 shape-row (suc zero) f t w h = absurd (let g : ⊥ = omega arith in g)
@@ -63,7 +56,7 @@ module _ {ρs : List Rule} {ix : List ℕ} (i : Indexed ρs ix) (k : ℕ) (h : k
   inner-low j l =
       let few : k < 256 = omega (arith, i .few) in
       let z : length (inner-in ix k) ≡ size-in ix k = length-part ix (14 * k + 6) (size-in ix k) (omega (arith, i .size, i .entry k h .size)) in
-      let m : List·Memᴰ (getD (inner-in ix k) j 0) (inner-in ix k) = link-member (inner-in ix k) j (rw z l) in
+      let m : List·Memᴰ (getD (inner-in ix k) j 0) (inner-in ix k) = getD-member (inner-in ix k) j 0 (rw z l) in
       let e : getD (inner-in ix k) j 0 ≡ getD ix (14 * k + 6 + j) 0 = getD-part ix (14 * k + 6) (size-in ix k) j l in (
         rw (← e) (i .named (rule ρs k) (rule-member ρs k h) .1 _ (inner-left (rule ρs k) _ (subst (λ (s : Shape). List·Memᴰ (getD (inner-in ix k) j 0) (inner-of s)) (sym row-here) m))),
         rw (← e) (lower .1 _ m),

@@ -7,13 +7,14 @@ use native.Mathlib.Omega.{arith}
 use borrow.Author.Needs.{needs}
 use lib.Count.{trailingZeros}
 use lib.ListN.{drop}
+use Rattle.base.specs.Part.{part-behind}
 use Rattle.base.specs.Reflects.{Reflects}
 use Rattle.name_sets.specs.Mask.{has, count}
 use Rattle.name_sets.specs.MemberLaws.{lowest, only-named, without-fewer}
 use Rattle.derivation_charts.specs.Chart.{Found, Splits}
 use Rattle.derivation_charts.specs.ReachingLaws.{reach-one}
 use Rattle.derivation_writer.specs.Division.{Cutting}
-use Rattle.derivation_writer.specs.DivisionLaws.{cut-last, cutting-start, cutting-next, cutting-end, cut-found, read-behind}
+use Rattle.derivation_writer.specs.DivisionLaws.{cut-last, cutting-start, cutting-next, cutting-end, cut-found}
 use Rattle.derivation_writer.proofs.division.cut.Statement.{statement}
 use Rattle.derivation_writer.proofs.division.cut.Tie as tie
 
@@ -43,7 +44,7 @@ tells : (c : tie.After-has Inv-loop μ-loop)
 tells c =
     let entry = c .before .before .before .before .before .before .before .before .before .before .before in
     let low-place = trailingZeros 64 (c .before .before .before .before .before .loop .rest) in
-    subst (λ (v : List ℕ). Reflects (c .has .result) (Splits (Found (entry .args .chart .now)) v low-place (entry .args .end))) (read-behind (entry .args .left .now) (entry .args .t + 1))
+    subst (λ (v : List ℕ). Reflects (c .has .result) (Splits (Found (entry .args .chart .now)) v low-place (entry .args .end))) (part-behind (entry .args .left .now) (entry .args .t + 1))
     (reach-one _ _ low-place _ (low (c .before .before .before .before) .0) (rw (c .has .ensures, ← c .before .before .before .single .ensures) (c .before .reach .ensures (entry .args .end))))
 
 returns-2 : tie.Need-returns-2 Inv-loop μ-loop
