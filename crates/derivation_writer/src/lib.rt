@@ -37,14 +37,6 @@ pub fn write(book: &[u8], role: u8, chain: &[u8], steps: &mut [u8]) -> Derivatio
         let mut chart = [0u16; 4656];
         return write_in(book, role, chain, &mut table, &mut chart, steps);
     }
-    write_large(book, role, chain, steps)
-}
-
-// The same, with arrays that have room for every book.
-fn write_large(book: &[u8], role: u8, chain: &[u8], steps: &mut [u8]) -> Derivation
-    ensures { λ r. ⌜ Writes (writable (length (now (steps .entry))) (now (book .entry)) role (now (chain .entry))) role (now (chain .entry))
-        (now (steps .entry)) (now (steps .exit)) r ⌝ }
-{
     let mut table = [0u8; 8192];
     let mut chart = [0u16; 37248];
     write_in(book, role, chain, &mut table, &mut chart, steps)

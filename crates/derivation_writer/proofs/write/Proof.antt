@@ -1,10 +1,10 @@
--- `write` meets its contract: the small arrays have room for a book of few names and rules.
+-- `write` meets its contract: the small arrays have room for a book of few names and rules, and the large ones for every book.
 use Prim.Native.Nat.{ℕ}
 use native.Mathlib.Omega.{arith}
 use borrow.Author.Needs.{needs}
 use borrow.Author.Tests.{leb-true}
 use lib.ListN.{length-replicate}
-use Rattle.derivation_writer.specs.WritesLaws.{roomy-small}
+use Rattle.derivation_writer.specs.WritesLaws.{roomy-small, roomy-large}
 use Rattle.derivation_writer.proofs.write.Statement.{statement}
 use Rattle.derivation_writer.proofs.write.Tie as tie
 
@@ -14,6 +14,9 @@ write-in-requires c κs =
     roomy-small (c .before .before .before .before .before .before .before .before .before .before .args .book .now) (omega (arith, at-word .before .before .byte .ensures, at-word .before .if1 .taken))
     (omega (arith, at-word .word .ensures, leb-true (at-word .word .result) 16 (c .before .before .before .if2 .taken)))
     (length-replicate {A = ℕ} 512 0) (length-replicate {A = ℕ} 4656 0)
+
+write-in-requires-2 : tie.Need-write-in-requires-2
+write-in-requires-2 c κs = roomy-large (c .before .before .before .before .before .before .before .before .args .book .now) (length-replicate {A = ℕ} 8192 0) (length-replicate {A = ℕ} 37248 0)
 
 pub write-spec : {M : Type 1} → statement M
 write-spec =
@@ -26,6 +29,8 @@ write-spec =
     write-in-requires
     (λ c. search needs)
     (λ c. search needs)
-    (λ c κs. search needs)
+    (λ c. search needs)
+    (λ c. search needs)
+    write-in-requires-2
     (λ c. search needs)
     (λ c. search needs))
