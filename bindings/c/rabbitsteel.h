@@ -36,7 +36,7 @@ extern "C" {
 #define RABBITSTEEL_MOVES_LEN 15360 /* numbers of its moves, three to a move: from, label, to */
 #define RABBITSTEEL_CHAIN_MAX 1024  /* links of a chain */
 #define RABBITSTEEL_DERIVED_MAX 16  /* links of a chain whose derivation is written or checked */
-#define RABBITSTEEL_STEPS_MAX 3952  /* steps of a derivation that is written */
+#define RABBITSTEEL_STEPS_MAX 4096  /* steps of a derivation that is written */
 #define RABBITSTEEL_STEPS_LEN 16384 /* bytes to lend for its steps, four to a step */
 
 /* The label of a silent move. Labels below it are role bytes. */

@@ -8,7 +8,7 @@ MOVES_MAX = 5120  # moves of its tables
 MOVES_LEN = 15360  # numbers of its moves, three to a move: from, label, to
 CHAIN_MAX = 1024  # links of a chain
 DERIVED_MAX = 16  # links of a chain whose derivation is written or checked
-STEPS_MAX = 3952  # steps of a derivation that is written
+STEPS_MAX = 4096  # steps of a derivation that is written
 STEPS_LEN = 16384  # bytes lent for its steps, four to a step
 
 SILENT = 128  # the label of a silent move; labels below it are role bytes

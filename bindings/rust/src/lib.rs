@@ -83,9 +83,9 @@ pub const CHAIN_MAX: usize = 1024;
 /// The most links of a chain whose derivation is written or checked.
 pub const DERIVED_MAX: usize = 16;
 /// The most steps of a derivation that is written.
-pub const STEPS_MAX: usize = 3952;
+pub const STEPS_MAX: usize = 4096;
 /// So many bytes have to be lent for the steps of a derivation.
-pub const STEPS_LEN: usize = 16384;
+pub const STEPS_LEN: usize = 4 * STEPS_MAX;
 /// The label of a silent move. Labels below it are role bytes.
 pub const SILENT: u16 = 128;
 

@@ -11,7 +11,7 @@ fn largest_sizes() {
         BOOK_MAX, NAMES_MAX, RULES_MAX, STATES_MAX, MOVES_MAX, MOVES_LEN, CHAIN_MAX,
     ];
     assert_eq!(sizes, [2568, 64, 256, 2048, 5120, 15360, 1024]);
-    assert_eq!([DERIVED_MAX, STEPS_MAX, STEPS_LEN], [16, 3952, 16384]);
+    assert_eq!([DERIVED_MAX, STEPS_MAX, STEPS_LEN], [16, 4096, 16384]);
     assert_eq!(SILENT, 128u16);
 }
 
