@@ -1,12 +1,10 @@
 -- A role gives way to the left side of its rule: the step that is written, where the parts of the left roles end, and the pending roles then.
-use mathlib.Core.Bool.{true}
 use mathlib.Core.List.{List, _++_}
 use mathlib.Core.Logic.{_⊎_}
 use mathlib.Core.Path.{_≡_}
-use Prim.Native.Nat.{ℕ, suc, _+_, _*_, _/_, _%_, _^_, _<_, _≤_}
+use Prim.Native.Nat.{ℕ, suc, _+_, _*_, _/_, _%_, _<_, _≤_}
 use lib.ListN.{length, getD, take, drop}
 use lib.Seq.{sets}
-use Rattle.name_sets.specs.Mask.{has}
 use Rattle.roles.specs.Role.{Chain}
 use Rattle.derivation_steps.specs.WrittenSteps.{step-at}
 use Rattle.derivation_charts.specs.Chart.{Found, Splits}
@@ -24,12 +22,12 @@ pub record CutAt (chart : List ℕ) (left : Chain) (t i j m : ℕ) : Type 0 wher
   pub found : Found chart i m (getD left t 0)
   pub behind : Splits (Found chart) (drop (t + 1) left) m j
 
--- such a place is left in a set of places where the role can end
-pub record Cutting (chart : List ℕ) (left : Chain) (t i j rest : ℕ) : Type 0 where
-  pub fits : rest < 2 ^ 64
-  pub found : (m : ℕ) → has rest m ≡ true → Found chart i m (getD left t 0)
+-- such a place is not before m
+pub record Cutting (chart : List ℕ) (left : Chain) (t i j m : ℕ) : Type 0 where
   pub place : ℕ
-  pub member : has rest place ≡ true
+  pub later : m ≤ place
+  pub less : place < j
+  pub found : Found chart i place (getD left t 0)
   pub behind : Splits (Found chart) (drop (t + 1) left) place j
 
 -- pending numbers for the first t roles, whose parts go from i to m, are stored from a place on; the other roles spell the part from m to j

@@ -1,5 +1,5 @@
 -- Laws of a role giving way to the left side of its rule.
-use mathlib.Core.Bool.{true, false, false≢true}
+use mathlib.Core.Bool.{Bool, true, false, false≢true}
 use mathlib.Core.List.{List, [], _∷_, _++_, append-assoc, map-append}
 use mathlib.Core.Logic.{_⊎_, inl, inr}
 use mathlib.Core.Path.{_≡_, refl, sym, ap, ap₂, _∙_, subst}
@@ -9,7 +9,7 @@ use native.Mathlib.Omega.{arith}
 use borrow.Author.Tests.{eqb-true, eqb-false}
 use lib.Bits.{bitXor, xor-lt}
 use lib.Dec.{eqb}
-use lib.ListN.{length, getD, take, drop, set, length-set, length-map, drop-of-length-le}
+use lib.ListN.{length, getD, take, drop, set, length-set, length-map, length-drop, drop-of-length-le}
 use lib.Pow.{pow-lt}
 use lib.Seq.{sets, sets-eq, length-sets, drop-cons, drop-at, take-suc, take-all, length-take-le, getD-set-same, getD-set-other}
 use Rattle.base.specs.Reflects.{Reflects, decides-no}
@@ -20,9 +20,10 @@ use Rattle.name_sets.specs.MaskLaws.{has-zero}
 use Rattle.name_sets.specs.MemberLaws.{without-other, without-own}
 use Rattle.roles.specs.Role.{Chain}
 use Rattle.derivation_steps.specs.WrittenSteps.{step-at}
-use Rattle.derivation_charts.specs.Chart.{ends-of, Found, Splits}
+use Rattle.derivation_charts.specs.Chart.{Found, Splits}
 use Rattle.derivation_charts.specs.Chart.Splits.{none, more}
-use Rattle.derivation_charts.specs.SplitsLaws.{splits-one}
+use Rattle.derivation_charts.specs.SplitsLaws.{splits-one, splits-long}
+use Rattle.derivation_charts.specs.ReachingLaws.{found-forward}
 use Rattle.book_questions.specs.RuleTable.{entry, rule-in}
 use Rattle.book_questions.specs.RuleTableLaws.{slice-left}
 use Rattle.derivation_writer.specs.Pending.{end-of, role-of, roles-of, Tiles}
@@ -89,15 +90,15 @@ step-put s at place q h =
       step = λ i. record { place = low i; number = byte-2 s at place 0 (q / 2) (q % 2) h i; side = byte-3 s at place 0 (q / 2) (q % 2) h i };
     }
 
+-- a role that does not derive a part divides none there; one that does, where the others go on
+pub divides-not : {A B : Type 0} → (A → ⊥) → Reflects false (A × B)
+divides-not not-so = decides-no _ (λ h. not-so (h .0))
+
+pub divides-rest : {A B : Type 0} {b : Bool} → A → Reflects b B → Reflects b (A × B)
+divides-rest a d = record { holds = λ h. (a, d .holds h); fails = λ h p. d .fails h (p .1) }
+
 -- where a role can end, of those behind which the others go on
 module _ {chart : List ℕ} {left : Chain} {t i j : ℕ} where
-  pub cutting-start : t < length left → ends-of chart i (getD left t 0) < 2 ^ 64 → Splits (Found chart) (drop t left) i j
-      → Cutting chart left t i j (ends-of chart i (getD left t 0))
-  cutting-start h fits s = first (subst (λ (v : Chain). Splits (Found chart) v i j) (drop-cons left t 0 h) s)
-    where
-      first : Splits (Found chart) (getD left t 0 ∷ drop (suc t) left) i j → Cutting chart left t i j (ends-of chart i (getD left t 0))
-      first (more m f q) = record { fits = fits; found = λ m h. h; place = m; member = f; behind = rw add-one q }
-
   -- the last role ends where the part does
   pub cut-last : t + 1 ≡ length left → j < 64 → Splits (Found chart) (drop t left) i j → CutAt chart left t i j j
   cut-last h l s =
@@ -110,26 +111,31 @@ module _ {chart : List ℕ} {left : Chain} {t i j : ℕ} where
       past : drop (suc t) left ≡ []
       past = drop-of-length-le left {i = suc t} (omega arith)
 
-  module _ {rest : ℕ} (c : Cutting chart left t i j rest) where
-    pub cut-found : (m : ℕ) → m < 64 → has rest m ≡ true → Splits (Found chart) (drop (t + 1) left) m j → CutAt chart left t i j m
-    cut-found m l h q = record { near = l; found = c .found m h; behind = q }
+  pub cutting-start : t < length left → (t + 1 ≡ length left → ⊥) → Splits (Found chart) (drop t left) i j → Cutting chart left t i j (i + 1)
+  cutting-start h several s = first (subst (λ (v : Chain). Splits (Found chart) v i j) (drop-cons left t 0 h) s)
+    where
+      others : 1 ≤ length (drop (suc t) left)
+      others = rw (length-drop (suc t) left) (omega arith)
 
-    pub cutting-next : (m : ℕ) → m < 64 → has rest m ≡ true → (Splits (Found chart) (drop (t + 1) left) m j → ⊥) → Cutting chart left t i j (bitXor rest (2 ^ m))
-    cutting-next m l own n =
-        record {
-          fits = xor-lt 64 _ _ (c .fits) (pow-lt l);
-          found = λ x h. found x h (eq-or-ne x m);
-          place = c .place;
-          member = without-other rest m (c .place) (λ e. n (subst (λ (x : ℕ). Splits (Found chart) (drop (t + 1) left) x j) e (c .behind))) ∙ c .member;
-          behind = c .behind;
-        }
+      first : Splits (Found chart) (getD left t 0 ∷ drop (suc t) left) i j → Cutting chart left t i j (i + 1)
+      first (more m f q) =
+          record {
+            place = m;
+            later = omega (arith, found-forward chart i m (getD left t 0) f);
+            less = omega (arith, splits-long (λ k p c _ g. found-forward chart p c (getD (drop (suc t) left) k 0) g) q, others);
+            found = f;
+            behind = rw add-one q;
+          }
+
+  module _ {m : ℕ} (c : Cutting chart left t i j m) where
+    pub cutting-next : (Found chart i m (getD left t 0) × Splits (Found chart) (drop (t + 1) left) m j → ⊥) → Cutting chart left t i j (m + 1)
+    cutting-next n =
+        record { place = c .place; later = later (eq-or-ne (c .place) m); less = c .less; found = c .found; behind = c .behind }
       where
-        found : (x : ℕ) → has (bitXor rest (2 ^ m)) x ≡ true → (x ≡ m) ⊎ (x ≡ m → ⊥) → Found chart i x (getD left t 0)
-        found x h (inl e) = absurd (false≢true (sym (without-own rest m own) ∙ subst (λ (y : ℕ). has (bitXor rest (2 ^ m)) y ≡ true) e h))
-        found x h (inr e) = c .found x (sym (without-other rest m x e) ∙ h)
-
-    pub cutting-end : rest ≡ 0 → ⊥
-    cutting-end e = false≢true (sym (has-zero (c .place)) ∙ subst (λ (x : ℕ). has x (c .place) ≡ true) e (c .member))
+        later : (c .place ≡ m) ⊎ (c .place ≡ m → ⊥) → m + 1 ≤ c .place
+        later (inl e) =
+            absurd (n (subst (λ (x : ℕ). Found chart i x (getD left t 0)) e (c .found), subst (λ (x : ℕ). Splits (Found chart) (drop (t + 1) left) x j) e (c .behind)))
+        later (inr e) = omega (arith, c .later)
 
 -- parts up to a place from which no role is left
 tiles-to : {F : (i j r : ℕ) → Type 0} {ps : List ℕ} {i m j : ℕ} → Tiles F ps i m → Splits F [] m j → Tiles F ps i j

@@ -2,7 +2,7 @@
 use mathlib.Core.Bool.{true, false, true≢false}
 use mathlib.Core.List.{List, [], _∷_, _++_}
 use mathlib.Core.Path.{_≡_, refl, sym, ap, _∙_, subst}
-use Prim.Native.Nat.{ℕ, _+_, _*_, _<_, _≤_}
+use Prim.Native.Nat.{ℕ, _+_, _-_, _*_, _<_, _≤_}
 use native.Mathlib.Omega.{arith}
 use borrow.Author.Tests.{le-leb, lt-leb}
 use lib.ListN.{length, getD, take, drop, length-drop, take-append-drop}
@@ -22,7 +22,7 @@ use Rattle.refusals.specs.declared.book_query.BookQueryRefusal.the-variants.{Bu
 use Rattle.derivation_steps.specs.WrittenSteps.{checked, completed, derivation}
 use Rattle.derivation_steps.specs.LeadsLaws.{leads-front, checked-steps}
 use Rattle.derivation_steps.specs.RunningLaws.{checked-agree}
-use Rattle.derivation_charts.specs.Chart.{ends-of}
+use Rattle.derivation_charts.specs.Chart.{starts-of}
 use Rattle.book_questions.specs.ShortQuestion.{asked-book}
 use Rattle.book_questions.specs.ShortQuestionLaws.{asked}
 use Rattle.book_questions.specs.RuleTable.{rule-in}
@@ -55,7 +55,7 @@ module _ (b : Book) (r : ℕ) (w : Chain) (old : List ℕ) where
     lent : lent-enough (length old) b ≡ ok b
     lent = rw (le-leb 16384 (length old) room) refl
 
-    pub gives-none : has (ends-of chart 0 r) (length w) ≡ false → Gives b r w old old None
+    pub gives-none : has (starts-of chart (length w - 0) r) 0 ≡ false → Gives b r w old old None
     gives-none h = no b lent (λ d. true≢false (sym (q .complete r d) ∙ h))
 
     pub gives-steps : {new : List ℕ} {n : ℕ} → Traced (searched-ready q) r old new n → Gives b r w old new (Steps n)

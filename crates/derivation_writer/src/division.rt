@@ -6,7 +6,7 @@ ghost use Rattle.base.specs.Reflects.{Reflects};
 ghost use Rattle.derivation_charts.specs.Chart.{Found, Splits, by};
 ghost use Rattle.book_questions.specs.RuleTable.{rule-in};
 ghost use Rattle.derivation_writer.specs.Division.{StepPut, CutAt, Divided};
-use derivation_charts::ends;
+use derivation_charts::derives;
 use derivation_charts::reach;
 use name_sets::has;
 use name_sets::single;
@@ -38,7 +38,7 @@ pub(crate) fn rule_by(chart: &[u16], i: usize, end: usize, role: u8) -> usize
     requires { ⌜ (274 * role + 274 ≤ length (now chart)) × (i < end) × (end ≤ 16) ⌝ }
     ensures { λ r. ⌜ r ≡ by (now (chart .entry)) i end role ⌝ }
 {
-    chart[274 * role as usize + 18 + (16 * i + (end - 1))] as usize
+    chart[274 * role as usize + 2 + (16 * (end - i) + i)] as usize
 }
 
 // The left side of the completed rule q.
@@ -96,18 +96,27 @@ fn cut(chart: &[u16], left: &[u8], t: usize, i: usize, end: usize) -> usize
     requires { ⌜ Splits (Found (now chart)) (drop t (now left)) i end ⌝ }
     ensures { λ r. ⌜ CutAt (now (chart .entry)) (now (left .entry)) t i end r ⌝ }
 {
-    let after = t + 1;
-    if after == left.len() {
+    if t + 1 == left.len() {
         return end;
     }
-    let mut rest = ends(chart, i, left[t]);
-    while rest != 0 {
-        let m = u64::trailing_zeros(rest) as usize;
-        let only = single(m);
-        if has(reach(chart, &left[after..], only), end) {
+    let mut m = i + 1;
+    while m < end {
+        if divides(chart, left, t, i, m, end) {
             return m;
         }
-        rest = rest ^ only;
+        m += 1;
     }
     end
+}
+
+// Whether the t-th role of a left side derives the part from link i to m, and those behind it go on from there to `end`.
+fn divides(chart: &[u16], left: &[u8], t: usize, i: usize, m: usize, end: usize) -> bool
+    requires { ⌜ (t < length (now left)) × (m < 64) ⌝ }
+    ensures { λ r. ⌜ Reflects r (Found (now (chart .entry)) i m (getD (now (left .entry)) t 0) × Splits (Found (now (chart .entry))) (drop (t + 1) (now (left .entry))) m end) ⌝ }
+{
+    if !derives(chart, i, m, left[t]) {
+        return false;
+    }
+    let after = t + 1;
+    has(reach(chart, &left[after..], single(m)), end)
 }

@@ -9,9 +9,8 @@ mod trace;
 
 use book_questions::Admission;
 use byte_parts::byte;
-use derivation_charts::ends;
+use derivation_charts::derives;
 use derivation_search::find;
-use name_sets::has;
 use refusals::BookQueryRefusal;
 use trace::trace;
 use words::word;
@@ -71,7 +70,7 @@ fn give(table: &[u8], chain: &[u8], chart: &[u16], role: u8, steps: &mut [u8]) -
     if steps.len() < 16384 {
         return Derivation::Refused(BookQueryRefusal::Buffer);
     }
-    if !has(ends(chart, 0, role), chain.len()) {
+    if !derives(chart, 0, chain.len(), role) {
         return Derivation::None;
     }
     Derivation::Steps(trace(table, chain, chart, role, steps))

@@ -1,69 +1,34 @@
--- `cut` meets its contract. The invariant: a place where the role can end is left.
-use mathlib.Core.Bool.{true}
-use mathlib.Core.List.{List}
-use mathlib.Core.Path.{_≡_, subst}
-use Prim.Native.Nat.{ℕ, _+_, _<_}
+-- `cut` meets its contract. The invariant: a place where the role can end is not before m.
+use Prim.Native.Nat.{_+_, _-_, _≤_}
 use native.Mathlib.Omega.{arith}
 use borrow.Author.Needs.{needs}
-use lib.Count.{trailingZeros}
-use lib.ListN.{drop}
-use Rattle.base.specs.Part.{part-behind}
-use Rattle.base.specs.Reflects.{Reflects}
-use Rattle.name_sets.specs.Mask.{has, count}
-use Rattle.name_sets.specs.MemberLaws.{lowest, only-named, without-fewer}
-use Rattle.derivation_charts.specs.Chart.{Found, Splits}
-use Rattle.derivation_charts.specs.ReachingLaws.{reach-one}
 use Rattle.derivation_writer.specs.Division.{Cutting}
-use Rattle.derivation_writer.specs.DivisionLaws.{cut-last, cutting-start, cutting-next, cutting-end, cut-found}
+use Rattle.derivation_writer.specs.DivisionLaws.{cut-last, cutting-start, cutting-next}
 use Rattle.derivation_writer.proofs.division.cut.Statement.{statement}
 use Rattle.derivation_writer.proofs.division.cut.Tie as tie
 
 abbrev Inv-loop : tie.InvT-loop
-Inv-loop chart left t i end after rest₀ rest = Cutting chart left t i end rest
+Inv-loop chart left t i end m₀ m = Cutting chart left t i end m
 
 abbrev μ-loop : tie.MeasureT-loop
-μ-loop chart left t i end after rest₀ rest = count 64 (has rest)
+μ-loop chart left t i end m₀ m = end - m
 
 returns : tie.Need-returns Inv-loop μ-loop
 returns c = let entry = c .before .before .before in cut-last (c .if1 .taken) (entry .pre .0 .1) (entry .pre .1)
 
-loop-holds : tie.Need-loop-holds Inv-loop μ-loop
-loop-holds c =
-    let entry = c .before .before .before .before .before in
-    rw (c .ends .ensures) (cutting-start (entry .pre .0 .0) (rw (← c .ends .ensures) (c .ends .ok)) (entry .pre .1))
-
--- the lowest place left
-low : (c : tie.In-loop Inv-loop μ-loop) → (trailingZeros 64 (c .before .loop .rest) < 64) × (has (c .before .loop .rest) (trailingZeros 64 (c .before .loop .rest)) ≡ true)
-low c = lowest 64 (c .before .loop .rest) (let h = c .loop-test .taken in omega arith) (c .before .loop .inv .fits)
-
--- what is reached from there tells whether the roles behind go on to the end
-tells : (c : tie.After-has Inv-loop μ-loop)
-    → let entry = c .before .before .before .before .before .before .before .before .before .before .before in
-    let low-place = trailingZeros 64 (c .before .before .before .before .before .loop .rest) in
-    Reflects (c .has .result) (Splits (Found (entry .args .chart .now)) (drop (entry .args .t + 1) (entry .args .left .now)) low-place (entry .args .end))
-tells c =
-    let entry = c .before .before .before .before .before .before .before .before .before .before .before in
-    let low-place = trailingZeros 64 (c .before .before .before .before .before .loop .rest) in
-    subst (λ (v : List ℕ). Reflects (c .has .result) (Splits (Found (entry .args .chart .now)) v low-place (entry .args .end))) (part-behind (entry .args .left .now) (entry .args .t + 1))
-    (reach-one _ _ low-place _ (low (c .before .before .before .before) .0) (rw (c .has .ensures, ← c .before .before .before .single .ensures) (c .before .reach .ensures (entry .args .end))))
+start : (c : tie.Else1 Inv-loop μ-loop) → let entry = c .before .before .before .args in Cutting (entry .chart .now) (entry .left .now) (entry .t) (entry .i) (entry .end) (entry .i + 1)
+start c = let entry = c .before .before .before in cutting-start (entry .pre .0 .0) (c .if1 .left) (entry .pre .1)
 
 returns-2 : tie.Need-returns-2 Inv-loop μ-loop
 returns-2 c =
-    let turn = c .before .before .before .before .before in
-    cut-found (turn .before .loop .inv) _ (low turn .0) (low turn .1) (tells (c .before) .holds (c .if2 .taken))
-
-loop-less : tie.Need-loop-less Inv-loop μ-loop
-loop-less c =
-    let turn = c .before .before .before .before .before in
-    rw (c .before .before .before .before .single .ensures, only-named _ (low turn .0)) (without-fewer _ _ (low turn .0) (low turn .1))
+    let both = c .before .divides .ensures .holds (c .if2 .taken) in
+    record { near = omega (arith, c .before .before .loop-test .taken, c .before .before .before .before .before .before .before .pre .0 .1); found = both .0; behind = both .1 }
 
 loop-again : tie.Need-loop-again Inv-loop μ-loop
-loop-again c =
-    let turn = c .before .before .before .before .before in
-    rw (c .before .before .before .before .single .ensures, only-named _ (low turn .0)) (cutting-next (turn .before .loop .inv) _ (low turn .0) (low turn .1) (tells (c .before) .fails (c .if2 .left)))
+loop-again c = cutting-next (c .before .before .before .loop .inv) (c .before .divides .ensures .fails (c .if2 .left))
 
 returns-3 : tie.Need-returns-3 Inv-loop μ-loop
-returns-3 c = absurd (cutting-end (c .before .loop .inv) (c .loop-test .left))
+returns-3 c = let so-far = c .before .loop .inv in absurd (let f : ⊥ = omega (arith, c .loop-test .left, so-far .later, so-far .less) in f)
 
 pub cut-spec : {M : Type 1} → statement M
 cut-spec =
@@ -73,17 +38,11 @@ cut-spec =
     μ-loop
     (λ c. search needs)
     returns
-    (λ c. search needs)
-    (λ c κs. search needs)
-    loop-holds
-    (λ c. omega (arith, low c .0))
-    (λ c κs. search needs)
-    (λ c. search needs)
-    (λ c. search needs)
-    (λ c. search needs)
-    (λ c κs. search needs)
-    (λ c κs. search needs)
+    (λ c. omega (arith, start c .later, start c .less, c .before .before .before .pre .0 .1))
+    start
+    (λ c κs. let pre = c .before .before .before .before .before .pre in (pre .0 .0, omega (arith, c .loop-test .taken, pre .0 .1)))
     returns-2
-    loop-less
+    (λ c. omega (arith, c .before .before .loop-test .taken, c .before .before .before .before .before .before .before .pre .0 .1))
+    (λ c. omega (arith, c .before .before .loop-test .taken))
     loop-again
     returns-3)

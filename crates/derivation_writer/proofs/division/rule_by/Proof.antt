@@ -6,7 +6,7 @@ use Rattle.derivation_writer.proofs.division.rule_by.Statement.{stateme
 use Rattle.derivation_writer.proofs.division.rule_by.Tie as tie
 
 cast-result : tie.Need-cast-result
-cast-result c = omega (arith, c .shared-slice-known .given (274 * c .before .args .role + 18 + (16 * c .before .args .i + (c .before .args .end - 1))) .fits)
+cast-result c = omega (arith, c .shared-slice-known .given (274 * c .before .args .role + 2 + (16 * (c .before .args .end - c .before .args .i) + c .before .args .i)) .fits)
 
 pub rule-by-spec : {M : Type 1} → statement M
 rule-by-spec =
