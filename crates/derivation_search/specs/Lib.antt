@@ -1,8 +1,6 @@
 pub mod Widening
 pub mod ChartWrites
 pub mod ChartWritesLaws
-pub mod Joins
-pub mod JoinsLaws
 pub mod Searching
 pub mod GrownLaws
 pub mod TakenLaws
