@@ -10,7 +10,7 @@ use Rattle.base.specs.Truth.{lt-or-le}
 use Rattle.order.specs.Closure.{no-order}
 use Rattle.name_sets.specs.Mask.{has, Holds}
 use Rattle.name_sets.specs.MaskLaws.{has-zero}
-use Rattle.order_masks.specs.AbsorbLaws.{above-none, grown, Absorbing}
+use Rattle.order_masks.specs.AbsorbLaws.{grown, grown-not, Absorbing}
 
 -- the front of masks that hold no order holds none
 pub holds-front : (n : ℕ) (masks : List ℕ) → Holds masks no-order → Holds (take n masks) no-order
@@ -29,4 +29,4 @@ absorbing-past {old} {right} {lower} {new} {x} p q r a =
     by-place : (z : ℕ) → (z < x) ⊎ (x ≤ z) → getD new z 0 ≡ grown right lower z (getD old z 0)
     by-place z (inl l) = a .past z l
     by-place z (inr l) =
-        a .ahead z l ∙ rw (List·getD-eq-default old 0 {n = z} (omega arith), above-none right z 0 (omega arith) (has-zero right)) refl
+        a .ahead z l ∙ rw (List·getD-eq-default old 0 {n = z} (omega arith)) (grown-not right lower z 0 (omega arith) (has-zero right))

@@ -7,6 +7,7 @@ ghost use Rattle.roles.specs.Role.{Chain};
 ghost use Rattle.order.specs.Closure.{reaches, with-inner};
 ghost use Rattle.name_sets.specs.Mask.{Holds};
 ghost use Rattle.name_sets.specs.Mask.{has as has-of};
+ghost use Rattle.order_masks.specs.AbsorbLaws.{grown as grown-of};
 use name_sets::has;
 use name_sets::single;
 use role_bytes::name;
@@ -37,14 +38,20 @@ pub(crate) fn absorb(masks: &mut [u64], right: usize, lower: u64)
 {
     let mut x = 0;
     while x < masks.len() {
-        let mask = masks[x];
-        if x == right {
-            masks[x] = mask | lower;
-        } else {
-            if has(mask, right) {
-                masks[x] = mask | lower;
-            }
-        }
+        masks[x] = grown(masks[x], x, right, lower);
         x += 1;
     }
+}
+
+// The mask of name x, with the set where x is the right name or above it. It is written in any case: names above are not told by a jump, which is often missed.
+fn grown(mask: u64, x: usize, right: usize, lower: u64) -> u64
+    ensures { λ r. ⌜ r ≡ grown-of right lower x mask ⌝ }
+{
+    if x == right {
+        return mask | lower;
+    }
+    if has(mask, right) {
+        return mask | lower;
+    }
+    mask
 }

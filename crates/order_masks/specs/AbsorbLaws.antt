@@ -10,7 +10,7 @@ use lib.Bits.{bitOr}
 use lib.Dec.{eqb}
 use lib.ListN.{length, getD, set, replicate, length-set, getD-replicate}
 use lib.Seq.{getD-set-same, getD-set-other}
-use Rattle.base.specs.Truth.{or-left, or-right, eq-or-ne}
+use Rattle.base.specs.Truth.{or-right, eq-or-ne}
 use Rattle.roles.specs.Role.{Chain}
 use Rattle.order.specs.Closure.{reaches, no-order, with-inner}
 use Rattle.name_sets.specs.Mask.{has, Holds}
@@ -23,15 +23,16 @@ above right x m = eqb x right || has m right
 abbrev pub grown : (right lower x m : ℕ) → ℕ
 grown right lower x m = cond (above right x m) (bitOr m lower) m
 
-module _ (right x m : ℕ) where
-  above-own : x ≡ right → above right x m ≡ true
-  above-own e = or-left (eqb x right) (has m right) (eq-eqb x right e)
+-- the mask of the name itself, of one above it, and of another
+module _ (right lower x m : ℕ) where
+  pub grown-own : x ≡ right → bitOr m lower ≡ grown right lower x m
+  grown-own e = rw (eq-eqb x right e) refl
 
-  above-has : has m right ≡ true → above right x m ≡ true
-  above-has h = or-right (eqb x right) (has m right) h
+  pub grown-above : has m right ≡ true → bitOr m lower ≡ grown right lower x m
+  grown-above h = rw (or-right (eqb x right) (has m right) h) refl
 
-  pub above-none : (x ≡ right → ⊥) → has m right ≡ false → above right x m ≡ false
-  above-none n h = rw (ne-eqb x right n, h) refl
+  pub grown-not : (x ≡ right → ⊥) → has m right ≡ false → m ≡ grown right lower x m
+  grown-not n h = rw (ne-eqb x right n, h) refl
 
 -- the masks before x have absorbed the set, those from x on are as they were
 pub record Absorbing (old : List ℕ) (right lower : ℕ) (new : List ℕ) (x : ℕ) : Type 0 where
@@ -55,34 +56,18 @@ module _ {old : List ℕ} {right lower : ℕ} where
     here : getD new x 0 ≡ getD old x 0
     here = a .ahead x (omega arith)
 
-    absorbing-grown : above right x (getD new x 0) ≡ true → Absorbing old right lower (set new x (bitOr (getD new x 0) lower)) (x + 1)
-    absorbing-grown t =
+    -- the next mask
+    pub absorbing-next : (m : ℕ) → m ≡ grown right lower x (getD new x 0) → Absorbing old right lower (set new x m) (x + 1)
+    absorbing-next m own =
         record {
-          size = length-set new x (bitOr (getD new x 0) lower) ∙ a .size;
+          size = length-set new x m ∙ a .size;
           past = λ z p. by-place z p (eq-or-ne z x);
-          ahead = λ z p. getD-set-other new x z (bitOr (getD new x 0) lower) 0 (omega arith) ∙ a .ahead z (omega arith);
+          ahead = λ z p. getD-set-other new x z m 0 (omega arith) ∙ a .ahead z (omega arith);
         }
       where
-        by-place : (z : ℕ) → z < x + 1 → (z ≡ x) ⊎ (z ≡ x → ⊥)
-            → getD (set new x (bitOr (getD new x 0) lower)) z 0 ≡ grown right lower z (getD old z 0)
-        by-place z p (inl e) =
-            rw (e, getD-set-same new x (bitOr (getD new x 0) lower) 0 (omega (arith, a .size)), ← here, t) refl
-        by-place z p (inr e) = getD-set-other new x z (bitOr (getD new x 0) lower) 0 e ∙ a .past z (omega arith)
-
-    -- the next mask absorbs the set, as the name's own or as one above it, or stays as it is
-    pub absorbing-own : x ≡ right → Absorbing old right lower (set new x (bitOr (getD new x 0) lower)) (x + 1)
-    absorbing-own e = absorbing-grown (above-own right x (getD new x 0) e)
-
-    pub absorbing-above : has (getD new x 0) right ≡ true → Absorbing old right lower (set new x (bitOr (getD new x 0) lower)) (x + 1)
-    absorbing-above h = absorbing-grown (above-has right x (getD new x 0) h)
-
-    pub absorbing-kept : (x ≡ right → ⊥) → has (getD new x 0) right ≡ false → Absorbing old right lower new (x + 1)
-    absorbing-kept n h =
-        record { size = a .size; past = λ z p. by-place z p (eq-or-ne z x); ahead = λ z p. a .ahead z (omega arith) }
-      where
-        by-place : (z : ℕ) → z < x + 1 → (z ≡ x) ⊎ (z ≡ x → ⊥) → getD new z 0 ≡ grown right lower z (getD old z 0)
-        by-place z p (inl e) = rw (e, ← here, above-none right x (getD new x 0) n h) refl
-        by-place z p (inr e) = a .past z (omega arith)
+        by-place : (z : ℕ) → z < x + 1 → (z ≡ x) ⊎ (z ≡ x → ⊥) → getD (set new x m) z 0 ≡ grown right lower z (getD old z 0)
+        by-place z p (inl e) = rw (e, getD-set-same new x m 0 (omega (arith, a .size)), ← here) own
+        by-place z p (inr e) = getD-set-other new x z m 0 e ∙ a .past z (omega arith)
 
   pub absorbing-end : {new : List ℕ} {x : ℕ} → 64 ≤ x → right < 64 → Absorbing old right lower new x
       → (order : ℕ → ℕ → Bool) (inner : Chain) → Holds old order → ((y : ℕ) → y < 64 → has lower y ≡ reaches order inner y)

@@ -1,11 +1,9 @@
 -- `absorb` meets its contract. The invariant: the masks passed have absorbed the set, the others are as they were.
-use mathlib.Core.Logic.{⊎-elim}
-use mathlib.Core.Path.{sym, _∙_}
 use Prim.Native.Nat.{_≤_, _<_, _-_}
 use native.Mathlib.Omega.{arith}
 use borrow.Author.Needs.{needs}
 use lib.ListN.{length}
-use Rattle.order_masks.specs.AbsorbLaws.{Absorbing, absorbing-start, absorbing-own, absorbing-above, absorbing-kept, absorbing-end}
+use Rattle.order_masks.specs.AbsorbLaws.{Absorbing, absorbing-start, absorbing-next, absorbing-end}
 use Rattle.order_checker.specs.FrontLaws.{absorbing-past}
 use Rattle.order_checker.proofs.masks.absorb.Statement.{statement}
 use Rattle.order_checker.proofs.masks.absorb.Tie as tie
@@ -19,15 +17,8 @@ abbrev μ-loop : tie.MeasureT-loop
 loop-again : tie.Need-loop-again Inv-loop μ-loop
 loop-again c =
     let at-loop = c .before .before .before in
-    let fits : at-loop .loop .x < length (at-loop .before .before .args .masks .now) = omega (arith, at-loop .before .before .pre .1) in (
-      omega arith,
-      ⊎-elim
-          (λ w. rw (w .1) (absorbing-own fits (at-loop .loop .inv .1) (w .0 .taken)))
-          (⊎-elim
-          (λ w. rw (w .3) (absorbing-above fits (at-loop .loop .inv .1) (sym (w .1 .ensures) ∙ w .2 .taken)))
-          (λ w. rw (w .3) (absorbing-kept fits (at-loop .loop .inv .1) (w .0 .left) (sym (w .1 .ensures) ∙ w .2 .left))))
-          (c .if1 .came),
-    )
+    let fits : at-loop .loop .x < length (at-loop .before .before .args .masks .now) = omega (arith, c .before .before .loop-test .taken, at-loop .loop .inv .1 .size) in
+    (omega arith, absorbing-next fits (at-loop .loop .inv .1) _ (c .grown .ensures))
 
 returns : tie.Need-returns Inv-loop μ-loop
 returns c = absorbing-end (omega arith) (omega arith) (absorbing-past (omega (arith, c .before .loop .inv .1 .size)) (omega arith) (c .before .before .before .pre .0) (c .before .loop .inv .1))
@@ -39,8 +30,6 @@ absorb-spec =
     Inv-loop
     μ-loop
     (λ c. (omega arith, absorbing-start))
-    (λ c. search needs)
-    (λ c. search needs)
     (λ c. search needs)
     (λ c. search needs)
     (λ c κs. search needs)
