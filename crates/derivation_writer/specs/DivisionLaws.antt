@@ -23,7 +23,7 @@ use Rattle.derivation_steps.specs.WrittenSteps.{step-at}
 use Rattle.derivation_charts.specs.Chart.{Found, Splits}
 use Rattle.derivation_charts.specs.Chart.Splits.{none, more}
 use Rattle.derivation_charts.specs.SplitsLaws.{splits-one, splits-long}
-use Rattle.derivation_charts.specs.ReachingLaws.{found-forward}
+use Rattle.derivation_charts.specs.ReachingLaws.{found-forward, forward}
 use Rattle.book_questions.specs.RuleTable.{entry, rule-in}
 use Rattle.book_questions.specs.RuleTableLaws.{slice-left}
 use Rattle.derivation_writer.specs.Pending.{end-of, role-of, roles-of, Tiles}
@@ -122,7 +122,7 @@ module _ {chart : List ℕ} {left : Chain} {t i j : ℕ} where
           record {
             place = m;
             later = omega (arith, found-forward chart i m (getD left t 0) f);
-            less = omega (arith, splits-long (λ k p c _ g. found-forward chart p c (getD (drop (suc t) left) k 0) g) q, others);
+            less = omega (arith, splits-long (forward chart (drop (suc t) left)) q, others);
             found = f;
             behind = rw add-one q;
           }

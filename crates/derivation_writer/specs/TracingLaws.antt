@@ -13,7 +13,8 @@ use Rattle.derivation_steps.specs.WrittenSteps.{leads}
 use Rattle.derivation_steps.specs.LeadsLaws.{leads-same, leads-step}
 use Rattle.derivation_charts.specs.Chart.{Found, Splits, Reason, by}
 use Rattle.derivation_charts.specs.Chart.Reason.{letter, ruled}
-use Rattle.derivation_charts.specs.SplitsLaws.{splits-long, charted-forward}
+use Rattle.derivation_charts.specs.SplitsLaws.{splits-long}
+use Rattle.derivation_charts.specs.ReachingLaws.{forward}
 use Rattle.book_questions.specs.RuleTable.{rule-in, entry}
 use Rattle.book_questions.specs.RuleTableLaws.{left-length, left-below}
 use Rattle.derivation_writer.specs.Pending.{end-of, role-of, roles-of, Below, Tiles, left-over}
@@ -101,7 +102,7 @@ module _ {table : List ℕ} {w : Chain} {chart : List ℕ} (ready : Ready table 
             named = named;
             splits = splits;
             lower = rw e (r .lower);
-            room = omega (arith, splits-long (charted-forward (ready .charted) (rule-in table (q / 2) (q % 2) .left) named) splits, behind-long, ready .charted .short, f .under);
+            room = omega (arith, splits-long (forward chart (rule-in table (q / 2) (q % 2) .left)) splits, behind-long, ready .charted .short, f .under);
           }
 
 -- the steps so far
