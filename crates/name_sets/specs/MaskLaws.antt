@@ -1,9 +1,9 @@
--- Laws of bit masks: the empty set, one name, a union; how many bits are set; a proper subset has fewer.
+-- Laws of bit masks: the empty set, a union, a shift, one name; how many bits are set; a proper subset has fewer.
 use mathlib.Core.Bool.{Bool, true, false, _||_}
 use mathlib.Core.Logic.{_⊎_, inl, inr}
 use mathlib.Core.Path.{_≡_, refl, sym, ap, ap₂, _∙_}
 use Prim.Native.Nat.{ℕ, zero, suc, _+_, _-_, _*_, _/_, _%_, _^_, _<_, _≤_}
-use native.Mathlib.Nat.{zero-div, div-one, div-self, div-eq-of-lt, mod-lt, not-suc-le-zero, le-of-suc-le-suc}
+use native.Mathlib.Nat.{one-mul, mul-assoc, mul-mod-left, pow-suc, zero-div, div-one, div-self, div-eq-of-lt, mod-lt, not-suc-le-zero, le-of-suc-le-suc}
 use native.Mathlib.Omega.{arith}
 use borrow.Author.Tests.{eq-eqb, ne-eqb}
 use lib.Bits.{bitOr, or-shr, or-mod}
@@ -33,23 +33,39 @@ has-or a b y =
     rw (or-shr a b y, or-mod (a / 2 ^ y) (b / 2 ^ y) 1)
     (two-bits (λ p q. eqb (bitOr p q) 1 ≡ (eqb p 1 || eqb q 1)) refl refl refl refl (a / 2 ^ y % 2) (b / 2 ^ y % 2) (mod-lt (a / 2 ^ y) (lit< tt)) (mod-lt (b / 2 ^ y) (lit< tt)))
 
+-- the bits of a number shifted to the right
+pub has-high : (m a y : ℕ) → has (m / 2 ^ a) y ≡ has m (a + y)
+unfolding has
+has-high m a y = ap (λ (k : ℕ). eqb (k % 2) 1) (shr-shr m a y)
+
+-- the bits of half a number
+pub has-half : (m y : ℕ) → has (m / 2) y ≡ has m (suc y)
+has-half m y = has-high m 1 y ∙ ap (has m) (let e : 1 + y ≡ suc y = omega arith in e)
+
+-- the bits of a number shifted to the left
+pub has-moved : (m n y : ℕ) → n ≤ y → has (m * 2 ^ n) y ≡ has m (y - n)
+has-moved m n y l =
+    ap (has (m * 2 ^ n)) (let e : y ≡ n + (y - n) = omega arith in e)
+    ∙ (sym (has-high (m * 2 ^ n) n (y - n)) ∙ ap (λ (k : ℕ). has k (y - n)) (shl-shr m n))
+
+pub has-below : (m n y : ℕ) → y < n → has (m * 2 ^ n) y ≡ false
+unfolding has
+has-below m n y l =
+    let d : n ≡ suc (n - y - 1) + y = omega arith in
+    let s : m * 2 ^ n ≡ m * 2 ^ suc (n - y - 1) * 2 ^ y
+    = ap (λ (k : ℕ). m * 2 ^ k) d ∙ (ap (λ (k : ℕ). m * k) (pow-add 2 (suc (n - y - 1)) y) ∙ sym (mul-assoc m (2 ^ suc (n - y - 1)) (2 ^ y))) in
+    let even : m * 2 ^ suc (n - y - 1) % 2 ≡ 0
+    = rw (pow-suc 2 (n - y - 1), ← mul-assoc m (2 ^ (n - y - 1)) 2) (mul-mod-left (m * 2 ^ (n - y - 1)) 2) in
+    rw (s, shl-shr (m * 2 ^ suc (n - y - 1)) y, even) refl
+
 pub has-single : (x y : ℕ) → has (2 ^ x) y ≡ eqb y x
 unfolding has
 has-single x y = by-order (lt-or-le y x) (eq-or-ne y x)
   where
     by-order : (y < x) ⊎ (x ≤ y) → (y ≡ x) ⊎ (y ≡ x → ⊥) → eqb (2 ^ x / 2 ^ y % 2) 1 ≡ eqb y x
     by-order p (inl e) = rw (e, div-self (pow-pos x), eq-eqb x x refl) refl
-    by-order (inl p) (inr e) =
-        let d : x ≡ suc (x - y - 1) + y = omega arith in
-        let s : 2 ^ x ≡ 2 ^ suc (x - y - 1) * 2 ^ y = ap (λ (k : ℕ). 2 ^ k) d ∙ pow-add 2 (suc (x - y - 1)) y in
-        let m : 2 ^ suc (x - y - 1) % 2 ≡ 0 = omega arith in
-        rw (s, shl-shr (2 ^ suc (x - y - 1)) y, m, ne-eqb y x e) refl
+    by-order (inl p) (inr e) = ap (λ (k : ℕ). has k y) (sym (one-mul (2 ^ x))) ∙ (has-below 1 x y p ∙ sym (ne-eqb y x e))
     by-order (inr p) (inr e) = rw (div-eq-of-lt (pow-lt {i = x} {j = y} (omega arith)), ne-eqb y x e) refl
-
--- the bits of half a number
-pub has-half : (m y : ℕ) → has (m / 2) y ≡ has m (suc y)
-unfolding has
-has-half m y = ap (λ (k : ℕ). eqb (k % 2) 1) (shr-shr m 1 y ∙ ap (λ (k : ℕ). m / 2 ^ k) (let e : 1 + y ≡ suc y = omega arith in e))
 
 -- tests that agree pass as often
 pub count-same : (d : ℕ) (P Q : ℕ → Bool) → ((k : ℕ) → k < d → P k ≡ Q k) → count d P ≡ count d Q
