@@ -20,7 +20,7 @@ use Rattle.name_sets.specs.MaskLaws.{has-zero}
 use Rattle.name_sets.specs.MemberLaws.{without-other, without-own}
 use Rattle.roles.specs.Role.{Chain}
 use Rattle.derivation_steps.specs.WrittenSteps.{step-at}
-use Rattle.derivation_charts.specs.Chart.{Found, Splits}
+use Rattle.derivation_charts.specs.Chart.{starts-of, Found, Splits}
 use Rattle.derivation_charts.specs.Chart.Splits.{none, more}
 use Rattle.derivation_charts.specs.SplitsLaws.{splits-one, splits-long}
 use Rattle.derivation_charts.specs.ReachingLaws.{found-forward, forward}
@@ -97,20 +97,34 @@ divides-not not-so = decides-no _ (λ h. not-so (h .0))
 pub divides-rest : {A B : Type 0} {b : Bool} → A → Reflects b B → Reflects b (A × B)
 divides-rest a d = record { holds = λ h. (a, d .holds h); fails = λ h p. d .fails h (p .1) }
 
--- where a role can end, of those behind which the others go on
-module _ {chart : List ℕ} {left : Chain} {t i j : ℕ} where
-  -- the last role ends where the part does
-  pub cut-last : t + 1 ≡ length left → j < 64 → Splits (Found chart) (drop t left) i j → CutAt chart left t i j j
-  cut-last h l s =
+-- the last role has the rest of the part
+module _ (chart : List ℕ) (left : Chain) (t i j : ℕ) (last : t + 1 ≡ length left) where
+  past : drop (suc t) left ≡ []
+  past = drop-of-length-le left {i = suc t} (omega arith)
+
+  alone : drop t left ≡ getD left t 0 ∷ []
+  alone = drop-cons left t 0 (omega arith) ∙ ap (λ (v : Chain). getD left t 0 ∷ v) past
+
+  last-found : Splits (Found chart) (drop t left) i j → Found chart i j (getD left t 0)
+  last-found s = splits-one (subst (λ (v : Chain). Splits (Found chart) v i j) alone s)
+
+  pub last-splits : {b : Bool} → b ≡ has (starts-of chart (j - i) (getD left t 0)) i → Reflects b (Splits (Found chart) (drop t left) i j)
+  last-splits {b} e =
+      record {
+        holds = λ h. subst (λ (v : Chain). Splits (Found chart) v i j) (sym alone) (more j (sym e ∙ h) none);
+        fails = λ h s. false≢true (sym h ∙ (e ∙ last-found s));
+      }
+
+  pub cut-last : j < 64 → Splits (Found chart) (drop t left) i j → CutAt chart left t i j j
+  cut-last l s =
       record {
         near = l;
-        found = splits-one (subst (λ (v : Chain). Splits (Found chart) v i j) (drop-cons left t 0 (omega arith) ∙ ap (λ (v : Chain). getD left t 0 ∷ v) past) s);
+        found = last-found s;
         behind = subst (λ (v : Chain). Splits (Found chart) v j j) (sym (ap (λ (k : ℕ). drop k left) (add-one t) ∙ past)) none;
       }
-    where
-      past : drop (suc t) left ≡ []
-      past = drop-of-length-le left {i = suc t} (omega arith)
 
+-- where a role can end, of those behind which the others go on
+module _ {chart : List ℕ} {left : Chain} {t i j : ℕ} where
   pub cutting-start : t < length left → (t + 1 ≡ length left → ⊥) → Splits (Found chart) (drop t left) i j → Cutting chart left t i j (i + 1)
   cutting-start h several s = first (subst (λ (v : Chain). Splits (Found chart) v i j) (drop-cons left t 0 h) s)
     where
@@ -209,7 +223,7 @@ pub divided-one : {chart : List ℕ} {left : Chain} {i j : ℕ} {old : List ℕ}
     → Splits (Found chart) left i j → top < length old → Divided chart left i j old top (set old top (128 * j + getD left 0 0)) top
 divided-one {chart} {left} {i} {j} {old} {top} one low near s room =
     let stored : Dividing chart left i j old top 1 j (set old (top + 0) (128 * j + getD left 0 0))
-    = dividing-next (dividing-start s) (omega arith) low (cut-last (sym one) near s) in
+    = dividing-next (dividing-start s) (omega arith) low (cut-last chart left 0 i j (sym one) near s) in
     dividing-end (rw (let e : top + 0 ≡ top = omega arith in e) at stored) (omega arith) (omega arith) room
 
 -- what stands of a part: not a single link, or its only link beside a role

@@ -78,9 +78,9 @@ module _ (b : Book) (r : ℕ) (w : Chain) (old : List ℕ) where
             searched-derivation q r (take (4 * n) new)
             (checked-steps (length (b .rules)) (rule-in table) r w (take (4 * n) new) n front (leads-front (length (b .rules)) (rule-in table) new n (r ∷ []) ∙ t .led))
 
--- room for a book of few names and rules, by its header, and for every book
-pub roomy-small : (s : List ℕ) {table chart : ℕ} → getD s 5 0 ≤ 8 → word s 6 ≤ 16 → table ≡ 512 → chart ≡ 4656 → Roomy s table chart
-roomy-small s names rules t l b d = (omega (arith, d .count), omega (arith, d .names))
+-- room for a book of so few names and rules, by its header, and for every book
+pub roomy-few : (names rules : ℕ) (s : List ℕ) {table chart : ℕ} → getD s 5 0 ≤ names → word s 6 ≤ rules → table ≡ 32 * rules → chart ≡ 582 * names → Roomy s table chart
+roomy-few names rules s few-names few-rules t l b d = (omega (arith, d .count), omega (arith, d .names))
 
 pub roomy-large : (s : List ℕ) {table chart : ℕ} → table ≡ 8192 → chart ≡ 37248 → Roomy s table chart
 roomy-large s t l b d = (omega (arith, d .count, d .count-most), omega (arith, d .names-most))

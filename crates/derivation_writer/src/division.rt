@@ -118,5 +118,8 @@ fn divides(chart: &[u16], left: &[u8], t: usize, i: usize, m: usize, end: usize)
         return false;
     }
     let after = t + 1;
+    if after + 1 == left.len() {
+        return derives(chart, m, end, left[after]);
+    }
     has(reach(chart, &left[after..], single(m)), end)
 }

@@ -31,7 +31,14 @@ pub fn write(book: &[u8], role: u8, chain: &[u8], steps: &mut [u8]) -> Derivatio
     ensures { λ r. ⌜ Writes (writable (length (now (steps .entry))) (now (book .entry)) role (now (chain .entry))) role (now (chain .entry))
         (now (steps .entry)) (now (steps .exit)) r ⌝ }
 {
-    if byte(book, 5) <= 8 && word(book, 6) <= 16 {
+    let names = byte(book, 5);
+    let rules = word(book, 6);
+    if names <= 4 && rules <= 8 {
+        let mut table = [0u8; 256];
+        let mut chart = [0u16; 2328];
+        return write_in(book, role, chain, &mut table, &mut chart, steps);
+    }
+    if names <= 8 && rules <= 16 {
         let mut table = [0u8; 512];
         let mut chart = [0u16; 4656];
         return write_in(book, role, chain, &mut table, &mut chart, steps);

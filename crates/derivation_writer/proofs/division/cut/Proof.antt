@@ -14,7 +14,7 @@ abbrev μ-loop : tie.MeasureT-loop
 μ-loop chart left t i end m₀ m = end - m
 
 returns : tie.Need-returns Inv-loop μ-loop
-returns c = let entry = c .before .before .before in cut-last (c .if1 .taken) (entry .pre .0 .1) (entry .pre .1)
+returns c = let entry = c .before .before .before in cut-last _ _ (entry .args .t) _ _ (c .if1 .taken) (entry .pre .0 .1) (entry .pre .1)
 
 start : (c : tie.Else1 Inv-loop μ-loop) → let entry = c .before .before .before .args in Cutting (entry .chart .now) (entry .left .now) (entry .t) (entry .i) (entry .end) (entry .i + 1)
 start c = let entry = c .before .before .before in cutting-start (entry .pre .0 .0) (c .if1 .left) (entry .pre .1)
