@@ -10,7 +10,7 @@ use Rattle.base.specs.Truth.{lt-or-le}
 use Rattle.order.specs.Closure.{no-order}
 use Rattle.name_sets.specs.Mask.{has, Holds}
 use Rattle.name_sets.specs.MaskLaws.{has-zero}
-use Rattle.order_masks.specs.AbsorbLaws.{grown, grown-not, Absorbing}
+use Rattle.order_masks.specs.AbsorbLaws.{grown, Absorbing}
 
 -- the front of masks that hold no order holds none
 pub holds-front : (n : ℕ) (masks : List ℕ) → Holds masks no-order → Holds (take n masks) no-order
@@ -21,12 +21,11 @@ holds-front n masks h = record { bits = λ x y p q. by-place x y p q (lt-or-le x
     by-place x y p q (inr l) = rw (List·getD-eq-default (take n masks) 0 {n = x} (rw length-take (omega arith))) (has-zero y)
 
 -- a walk past the last mask has absorbed the set, for all names
-pub absorbing-past : {old : List ℕ} {right lower : ℕ} {new : List ℕ} {x : ℕ} → length old ≤ x → x ≤ 64 → right < length old
+pub absorbing-past : {old : List ℕ} {right lower : ℕ} {new : List ℕ} {x : ℕ} → length old ≤ x → x ≤ 64
     → Absorbing old right lower new x → Absorbing old right lower new 64
-absorbing-past {old} {right} {lower} {new} {x} p q r a =
+absorbing-past {old} {right} {lower} {new} {x} p q a =
     record { size = a .size; past = λ z k. by-place z (lt-or-le z x); ahead = λ z k. a .ahead z (omega arith) }
   where
-    by-place : (z : ℕ) → (z < x) ⊎ (x ≤ z) → getD new z 0 ≡ grown right lower z (getD old z 0)
+    by-place : (z : ℕ) → (z < x) ⊎ (x ≤ z) → getD new z 0 ≡ grown right lower (getD old z 0)
     by-place z (inl l) = a .past z l
-    by-place z (inr l) =
-        a .ahead z l ∙ rw (List·getD-eq-default old 0 {n = z} (omega arith)) (grown-not right lower z 0 (omega arith) (has-zero right))
+    by-place z (inr l) = a .ahead z l ∙ rw (List·getD-eq-default old 0 {n = z} (omega arith), has-zero right) refl

@@ -36,20 +36,19 @@ pub(crate) fn absorb(masks: &mut [u64], right: usize, lower: u64)
     ensures { λ _. ⌜ ((order : ℕ → ℕ → Bool) (inner : Chain) → Holds (now (masks .entry)) order
         → ((y : ℕ) → y < 64 → has-of lower y ≡ reaches order inner y) → Holds (now (masks .exit)) (with-inner order right inner)) ⌝ }
 {
+    masks[right] = masks[right] | lower;
     let mut x = 0;
     while x < masks.len() {
-        masks[x] = grown(masks[x], x, right, lower);
+        masks[x] = grown(masks[x], right, lower);
         x += 1;
     }
 }
 
-// The mask of name x, with the set where x is the right name or above it. It is written in any case: names above are not told by a jump, which is often missed.
-fn grown(mask: u64, x: usize, right: usize, lower: u64) -> u64
-    ensures { λ r. ⌜ r ≡ grown-of right lower x mask ⌝ }
+// A mask, with the set where it has the right name. It is written in any case: names above are not told by a jump, which is often missed, and masks can be taken
+// several at a time.
+fn grown(mask: u64, right: usize, lower: u64) -> u64
+    ensures { λ r. ⌜ r ≡ grown-of right lower mask ⌝ }
 {
-    if x == right {
-        return mask | lower;
-    }
     if has(mask, right) {
         return mask | lower;
     }

@@ -10,43 +10,40 @@ use lib.Bits.{bitOr}
 use lib.Dec.{eqb}
 use lib.ListN.{length, getD, set, replicate, length-set, getD-replicate}
 use lib.Seq.{getD-set-same, getD-set-other}
-use Rattle.base.specs.Truth.{or-right, eq-or-ne}
+use Rattle.base.specs.Truth.{eq-or-ne}
 use Rattle.roles.specs.Role.{Chain}
 use Rattle.order.specs.Closure.{reaches, no-order, with-inner}
 use Rattle.name_sets.specs.Mask.{has, Holds}
 use Rattle.name_sets.specs.MaskLaws.{has-zero, has-or}
 
--- whether mask m of name x is to absorb the set, and the mask that comes of it
-abbrev pub above : (right x m : ℕ) → Bool
-above right x m = eqb x right || has m right
+-- a mask, with the set where it has the name
+abbrev pub grown : (right lower m : ℕ) → ℕ
+grown right lower m = cond (has m right) (bitOr m lower) m
 
-abbrev pub grown : (right lower x m : ℕ) → ℕ
-grown right lower x m = cond (above right x m) (bitOr m lower) m
+-- masks in which that of the name itself has absorbed the set
+abbrev pub own-first : List ℕ → (right lower : ℕ) → List ℕ
+own-first masks right lower = set masks right (bitOr (getD masks right 0) lower)
 
--- the mask of the name itself, of one above it, and of another
-module _ (right lower x m : ℕ) where
-  pub grown-own : x ≡ right → bitOr m lower ≡ grown right lower x m
-  grown-own e = rw (eq-eqb x right e) refl
-
-  pub grown-above : has m right ≡ true → bitOr m lower ≡ grown right lower x m
-  grown-above h = rw (or-right (eqb x right) (has m right) h) refl
-
-  pub grown-not : (x ≡ right → ⊥) → has m right ≡ false → m ≡ grown right lower x m
-  grown-not n h = rw (ne-eqb x right n, h) refl
-
--- the masks before x have absorbed the set, those from x on are as they were
+-- the masks before x have grown, those from x on are as they were
 pub record Absorbing (old : List ℕ) (right lower : ℕ) (new : List ℕ) (x : ℕ) : Type 0 where
   pub size : length new ≡ length old
-  pub past : (z : ℕ) → z < x → getD new z 0 ≡ grown right lower z (getD old z 0)
+  pub past : (z : ℕ) → z < x → getD new z 0 ≡ grown right lower (getD old z 0)
   pub ahead : (z : ℕ) → x ≤ z → getD new z 0 ≡ getD old z 0
 
 -- a name of a mask that grew
-has-grown : (right lower x m y : ℕ) → has (grown right lower x m) y ≡ (has m y || (above right x m && has lower y))
-has-grown right lower x m y = by-test (above right x m)
+has-grown : (right lower m y : ℕ) → has (grown right lower m) y ≡ (has m y || (has m right && has lower y))
+has-grown right lower m y = by-test (has m right)
   where
     by-test : (t : Bool) → has (cond t (bitOr m lower) m) y ≡ (has m y || (t && has lower y))
     by-test true = has-or m lower y
     by-test false = sym (or-false (has m y))
+
+-- where it had absorbed the set before, growing does not change it
+again : (a b c : Bool) → ((a || b) || (c && b)) ≡ (a || b)
+again true b c = refl
+again false true c = refl
+again false false true = refl
+again false false false = refl
 
 module _ {old : List ℕ} {right lower : ℕ} where
   pub absorbing-start : Absorbing old right lower old 0
@@ -57,7 +54,7 @@ module _ {old : List ℕ} {right lower : ℕ} where
     here = a .ahead x (omega arith)
 
     -- the next mask
-    pub absorbing-next : (m : ℕ) → m ≡ grown right lower x (getD new x 0) → Absorbing old right lower (set new x m) (x + 1)
+    pub absorbing-next : (m : ℕ) → m ≡ grown right lower (getD new x 0) → Absorbing old right lower (set new x m) (x + 1)
     absorbing-next m own =
         record {
           size = length-set new x m ∙ a .size;
@@ -65,19 +62,36 @@ module _ {old : List ℕ} {right lower : ℕ} where
           ahead = λ z p. getD-set-other new x z m 0 (omega arith) ∙ a .ahead z (omega arith);
         }
       where
-        by-place : (z : ℕ) → z < x + 1 → (z ≡ x) ⊎ (z ≡ x → ⊥) → getD (set new x m) z 0 ≡ grown right lower z (getD old z 0)
+        by-place : (z : ℕ) → z < x + 1 → (z ≡ x) ⊎ (z ≡ x → ⊥) → getD (set new x m) z 0 ≡ grown right lower (getD old z 0)
         by-place z p (inl e) = rw (e, getD-set-same new x m 0 (omega (arith, a .size)), ← here) own
         by-place z p (inr e) = getD-set-other new x z m 0 e ∙ a .past z (omega arith)
 
-  pub absorbing-end : {new : List ℕ} {x : ℕ} → 64 ≤ x → right < 64 → Absorbing old right lower new x
-      → (order : ℕ → ℕ → Bool) (inner : Chain) → Holds old order → ((y : ℕ) → y < 64 → has lower y ≡ reaches order inner y)
+-- all masks have grown: they hold the order with a rule more
+module _ (masks : List ℕ) (right lower : ℕ) (inside : right < length masks) where
+  -- the mask of a name then
+  has-after : (z y : ℕ) → has (grown right lower (getD (own-first masks right lower) z 0)) y
+      ≡ (has (getD masks z 0) y || ((eqb z right || has (getD masks z 0) right) && has lower y))
+  has-after z y = by-place (eq-or-ne z right)
+    where
+      by-place : (z ≡ right) ⊎ (z ≡ right → ⊥) → has (grown right lower (getD (own-first masks right lower) z 0)) y
+          ≡ (has (getD masks z 0) y || ((eqb z right || has (getD masks z 0) right) && has lower y))
+      by-place (inl e) =
+          let m = getD masks right 0 in
+          rw (e, eq-eqb right right refl, getD-set-same masks right (bitOr m lower) 0 inside, has-grown right lower (bitOr m lower) y, has-or m lower y)
+          (again (has m y) (has lower y) (has (bitOr m lower) right))
+      by-place (inr e) =
+          rw (ne-eqb z right e, getD-set-other masks right z (bitOr (getD masks right 0) lower) 0 e)
+          (has-grown right lower (getD masks z 0) y)
+
+  pub absorbing-end : {new : List ℕ} {x : ℕ} → 64 ≤ x → right < 64 → Absorbing (own-first masks right lower) right lower new x
+      → (order : ℕ → ℕ → Bool) (inner : Chain) → Holds masks order → ((y : ℕ) → y < 64 → has lower y ≡ reaches order inner y)
       → Holds new (with-inner order right inner)
   unfolding with-inner
   absorbing-end p q a order inner h e =
       record {
         bits =
             λ z y k l.
-            rw (a .past z (omega arith), has-grown right lower z (getD old z 0) y, h .bits z y k l, h .bits z right k q, e y l) refl;
+            rw (a .past z (omega arith), has-after z y, h .bits z y k l, h .bits z right k q, e y l) refl;
       }
 
 -- a rule without inner roles changes nothing

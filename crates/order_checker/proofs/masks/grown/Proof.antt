@@ -1,7 +1,6 @@
 -- `grown` meets its contract.
-use mathlib.Core.Path.{sym, _∙_}
+use mathlib.Core.Path.{refl, sym, _∙_}
 use borrow.Author.Needs.{needs}
-use Rattle.order_masks.specs.AbsorbLaws.{grown-own, grown-above, grown-not}
 use Rattle.order_checker.proofs.masks.grown.Statement.{statement}
 use Rattle.order_checker.proofs.masks.grown.Tie as tie
 
@@ -9,7 +8,6 @@ pub grown-spec : {M : Type 1} → statement M
 grown-spec =
     tie.close
     (tie.spec
-    (λ c. grown-own _ _ _ _ (c .if1 .taken))
     (λ c κs. search needs)
-    (λ c. grown-above _ _ _ _ (sym (c .before .has .ensures) ∙ c .if2 .taken))
-    (λ c. grown-not _ _ _ _ (c .before .before .if1 .left) (sym (c .before .has .ensures) ∙ c .if2 .left)))
+    (λ c. rw (sym (c .before .has .ensures) ∙ c .if1 .taken) refl)
+    (λ c. rw (sym (c .before .has .ensures) ∙ c .if1 .left) refl))
