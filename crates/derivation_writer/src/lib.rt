@@ -62,10 +62,10 @@ fn write_in(
         (now (steps .entry)) (now (steps .exit)) r ⌝ }
 {
     let admission = find(book, role, chain, table, chart);
-    match admission {
-        Admission::Refused(refusal) => Derivation::Refused(refusal),
-        Admission::Admitted(_) => give(table, chain, chart, role, steps),
+    if let Admission::Refused(refusal) = admission {
+        return Derivation::Refused(refusal);
     }
+    give(table, chain, chart, role, steps)
 }
 
 // The same for a chain of which is found which roles derive its parts.

@@ -26,10 +26,10 @@ write-in-spec =
     (λ c κs. search needs)
     (λ c. search needs)
     (λ c. search needs)
-    give-requires
-    (λ c. search needs)
     (λ c. search needs)
     returns
+    (λ c. search needs)
+    give-requires
     (λ c. search needs)
     (λ c. search needs)
     (λ c. search needs)
