@@ -1,4 +1,4 @@
--- A step as the code holds it, and what it leaves: the chain that is the front of some links, with a left side in the place of one of them.
+-- What a step leaves: the chain that is the front of some links, with a left side in the place of one of them.
 use mathlib.Core.Bool.{true, false}
 use mathlib.Core.List.{List, _++_}
 use mathlib.Core.Path.{_≡_}
@@ -6,13 +6,9 @@ use Prim.Native.Nat.{ℕ, suc, _+_, _-_, _≤_}
 use lib.ListN.{length, take, drop}
 use Rattle.roles.specs.Role.{Chain}
 use Rattle.roles.specs.Rule.{Rule}
-use Rattle.derivation_steps.specs.WrittenSteps.{WrittenStep, possible, replaced}
+use Rattle.derivation_steps.specs.declared.WrittenStep.{WrittenStep}
+use Rattle.derivation_steps.specs.WrittenSteps.{possible, replaced}
 use Rattle.book_questions.specs.RuleTable.{Rules}
-use Rattle.derivation_checker.specs.declared.step.WrittenStep.{WrittenStep as Held}
-
--- the step that the code holds
-abbrev pub written : Held → WrittenStep
-written t = record { place = t .place; number = t .number; side = t .side }
 
 -- a chain in which a left side stands for the link at a place
 abbrev pub inserted : Chain → ℕ → Chain → Chain

@@ -6,7 +6,8 @@ use Prim.Native.Nat.{ℕ, _+_, _-_, _<_, _≤_}
 use native.Mathlib.Omega.{arith}
 use lib.ListN.{length, getD, take, drop, set}
 use lib.Seq.{length-take-le, getD-take, drop-cons}
-use Rattle.derivation_steps.specs.WrittenSteps.{WrittenStep, replaced}
+use Rattle.derivation_steps.specs.declared.WrittenStep.{WrittenStep}
+use Rattle.derivation_steps.specs.WrittenSteps.{replaced}
 use Rattle.derivation_steps.specs.StepLaws.{Possible, possible-true, possible-false}
 use Rattle.book_questions.specs.RuleTable.{entry, links-in, rule-in}
 use Rattle.book_questions.specs.RuleTableLaws.{right-in, left-length, slice-left}

@@ -8,7 +8,8 @@ use lib.ListN.{length, take}
 use Rattle.base.specs.Result.{Result}
 use Rattle.base.specs.Result.Result.{refused, ok}
 use Rattle.roles.specs.Role.{Chain, same-chain}
-use Rattle.derivation_steps.specs.WrittenSteps.{WrittenStep, step-at, checked}
+use Rattle.derivation_steps.specs.declared.WrittenStep.{WrittenStep}
+use Rattle.derivation_steps.specs.WrittenSteps.{step-at, checked}
 use Rattle.derivation_steps.specs.RunningLaws.{Running, running-start, running-impossible, running-next, running-end, checked-whole}
 use Rattle.book_questions.specs.RuleTable.{rule-in, Rules}
 use Rattle.derivation_checker.specs.Applied.{Ready, Applied}

@@ -16,9 +16,9 @@ use book_decoder::Header;
 use book_questions::Admission;
 use book_questions::BookAnswer;
 use book_questions::admit;
+use derivation_steps::step_of;
 use refusals::BookQueryRefusal;
 use step::apply;
-use step::step_of;
 use words::word;
 
 // Whether some bytes, four for each step, are a derivation of a chain from a role by the rules of a book: the first refusal of causes 1 to 8,

@@ -1,31 +1,11 @@
-// One step of a written derivation: read, and taken on a chain in place.
+// One step of a written derivation, taken on a chain in place.
 ghost use mathlib.Core.Path.{_≡_};
 ghost use Prim.Native.Nat.{_+_, _-_, _*_, _<_, _≤_};
 ghost use lib.ListN.{length, take, drop};
 ghost use lib.Seq.{paste};
-ghost use Rattle.derivation_steps.specs.WrittenSteps.{step-at};
 ghost use Rattle.book_questions.specs.RuleTable.{rule-in};
-ghost use Rattle.derivation_checker.specs.Applied.{written, Inserted, Ready, Applied};
-
-// A replacement: at a place of the chain, by the rule of a number or by its inverse (side 1).
-pub(crate) struct WrittenStep {
-    place: usize,
-    number: usize,
-    side: usize,
-}
-
-// Step k of some bytes.
-pub(crate) fn step_of(steps: &[u8], k: usize) -> WrittenStep
-    requires { ⌜ 4 * k + 4 ≤ length (now steps) ⌝ }
-    ensures { λ r. ⌜ written r ≡ step-at (now (steps .entry)) k ⌝ }
-{
-    let at = 4 * k;
-    WrittenStep {
-        place: steps[at] as usize + 256 * steps[at + 1] as usize,
-        number: steps[at + 2] as usize,
-        side: steps[at + 3] as usize,
-    }
-}
+ghost use Rattle.derivation_checker.specs.Applied.{Inserted, Ready, Applied};
+use derivation_steps::WrittenStep;
 
 // Takes a step on the chain that is the first `size` links: the new size, or 0 where the step is impossible. The table has so many rules.
 pub(crate) fn apply(
@@ -37,7 +17,7 @@ pub(crate) fn apply(
 ) -> usize
     requires { ⌜ Ready (now table) rules (now links) size ⌝ }
     ensures { λ r. ⌜
-        Applied rules (rule-in (now (table .entry))) (written step) (take size (now (links .entry))) (now (links .exit)) r
+        Applied rules (rule-in (now (table .entry))) step (take size (now (links .entry))) (now (links .exit)) r
         ⌝ }
 {
     let place = step.place;

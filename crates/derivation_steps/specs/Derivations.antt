@@ -17,7 +17,8 @@ use Rattle.roles.specs.RoleLaws.{same-chain-sound}
 use Rattle.roles.specs.Rule.{Rule}
 use Rattle.roles.specs.Derivation.{Step, Derives}
 use Rattle.roles.specs.Derivation.Step.{replace}
-use Rattle.derivation_steps.specs.WrittenSteps.{WrittenStep, step-at, completed, possible, replaced, leads, ending, checked, derivation}
+use Rattle.derivation_steps.specs.declared.WrittenStep.{WrittenStep}
+use Rattle.derivation_steps.specs.WrittenSteps.{step-at, completed, possible, replaced, leads, ending, checked, derivation}
 use Rattle.derivation_steps.specs.StepLaws.{Possible, possible-facts}
 use Rattle.derivation_steps.specs.NumberedLaws.{numbered, completed-member, completed-some}
 use Rattle.derivation_steps.specs.LeadsLaws.{leads-before, checked-steps}

@@ -1,4 +1,6 @@
 pub mod WrittenSteps
+pub mod StepBytes
+pub mod StepBytesLaws
 pub mod StepLaws
 pub mod NumberedLaws
 pub mod LeadsLaws

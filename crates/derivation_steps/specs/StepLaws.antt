@@ -10,7 +10,8 @@ use Rattle.base.specs.Result.{Result, demand}
 use Rattle.base.specs.Truth.{not-true-false}
 use Rattle.roles.specs.Role.{Chain}
 use Rattle.roles.specs.Rule.{Rule}
-use Rattle.derivation_steps.specs.WrittenSteps.{WrittenStep, step-at, used, possible, replaced, leads}
+use Rattle.derivation_steps.specs.declared.WrittenStep.{WrittenStep}
+use Rattle.derivation_steps.specs.WrittenSteps.{step-at, used, possible, replaced, leads}
 
 module _ (count : ℕ) (rule : (number side : ℕ) → Rule) where
   -- the five tests of a step on a chain

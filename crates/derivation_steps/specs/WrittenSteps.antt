@@ -9,12 +9,7 @@ use Rattle.base.specs.Result.Result.{ok}
 use Rattle.roles.specs.Role.{Chain, same-chain}
 use Rattle.roles.specs.Rule.{Rule, inverse}
 use Rattle.words.specs.Word.{word}
-
--- a replacement: at a place of the present chain, by the rule of a number as it stands (side 0) or by its inverse (side 1)
-pub record WrittenStep : Type 0 where
-  pub place : ℕ
-  pub number : ℕ
-  pub side : ℕ
+use Rattle.derivation_steps.specs.declared.WrittenStep.{WrittenStep}
 
 -- step k of some bytes, four bytes each: the place in 16 bits, low byte first, the rule's number, the side
 unfoldable pub step-at : List ℕ → ℕ → WrittenStep

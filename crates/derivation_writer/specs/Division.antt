@@ -1,20 +1,12 @@
--- A role gives way to the left side of its rule: the step that is written, where the parts of the left roles end, and the pending roles then.
+-- A role gives way to the left side of its rule: where the parts of the left roles end, and the pending roles then.
 use mathlib.Core.List.{List, _++_}
-use mathlib.Core.Logic.{_⊎_}
 use mathlib.Core.Path.{_≡_}
-use Prim.Native.Nat.{ℕ, suc, _+_, _*_, _/_, _%_, _<_, _≤_}
+use Prim.Native.Nat.{ℕ, suc, _+_, _<_, _≤_}
 use lib.ListN.{length, getD, take, drop}
 use lib.Seq.{sets}
 use Rattle.roles.specs.Role.{Chain}
-use Rattle.derivation_steps.specs.WrittenSteps.{step-at}
 use Rattle.derivation_charts.specs.Chart.{Found, Splits}
 use Rattle.derivation_writer.specs.Pending.{roles-of, Tiles}
-
--- a step is written, at a place and by the rule of number q / 2 and side q % 2; the other bytes stay
-pub record StepPut (old : List ℕ) (at place q : ℕ) (new : List ℕ) : Type 0 where
-  pub size : length new ≡ length old
-  pub others : (x : ℕ) → (x < 4 * at) ⊎ (4 * at + 4 ≤ x) → getD new x 0 ≡ getD old x 0
-  pub step : step-at new at ≡ record { place = place; number = q / 2; side = q % 2 }
 
 -- m is where the t-th role of a left side can end, of the part from i to j that it spells with those behind it
 pub record CutAt (chart : List ℕ) (left : Chain) (t i j m : ℕ) : Type 0 where

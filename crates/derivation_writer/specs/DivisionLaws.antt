@@ -3,23 +3,18 @@ use mathlib.Core.Bool.{Bool, true, false, false≢true}
 use mathlib.Core.List.{List, [], _∷_, _++_, append-assoc, map-append}
 use mathlib.Core.Logic.{_⊎_, inl, inr}
 use mathlib.Core.Path.{_≡_, refl, sym, ap, ap₂, _∙_, subst}
-use Prim.Native.Nat.{ℕ, suc, _+_, _-_, _*_, _/_, _%_, _^_, _<_, _≤_}
+use Prim.Native.Nat.{ℕ, suc, _+_, _-_, _*_, _/_, _%_, _<_, _≤_}
 use native.Mathlib.Numerals.{add-one}
 use native.Mathlib.Omega.{arith}
 use borrow.Author.Tests.{eqb-true, eqb-false}
-use lib.Bits.{bitXor, xor-lt}
 use lib.Dec.{eqb}
-use lib.ListN.{length, getD, take, drop, set, length-set, length-map, length-drop, drop-of-length-le}
-use lib.Pow.{pow-lt}
-use lib.Seq.{sets, sets-eq, length-sets, drop-cons, drop-at, take-suc, take-all, length-take-le, getD-set-same, getD-set-other}
+use lib.ListN.{length, getD, take, drop, set, length-map, length-drop, drop-of-length-le}
+use lib.Seq.{sets, sets-eq, length-sets, drop-cons, drop-at, take-suc, take-all, length-take-le}
 use Rattle.base.specs.Reflects.{Reflects, decides-no}
 use Rattle.base.specs.Truth.{eq-or-ne}
 use Rattle.base.specs.WritingLaws.{sets-append}
 use Rattle.name_sets.specs.Mask.{has}
-use Rattle.name_sets.specs.MaskLaws.{has-zero}
-use Rattle.name_sets.specs.MemberLaws.{without-other, without-own}
 use Rattle.roles.specs.Role.{Chain}
-use Rattle.derivation_steps.specs.WrittenSteps.{step-at}
 use Rattle.derivation_charts.specs.Chart.{starts-of, Found, Splits}
 use Rattle.derivation_charts.specs.Chart.Splits.{none, more}
 use Rattle.derivation_charts.specs.SplitsLaws.{splits-one, splits-long}
@@ -29,66 +24,7 @@ use Rattle.book_questions.specs.RuleTableLaws.{slice-left}
 use Rattle.derivation_writer.specs.Pending.{end-of, role-of, roles-of, Tiles}
 use Rattle.derivation_writer.specs.Pending.Tiles.{none as no-tile, more as tile}
 use Rattle.derivation_writer.specs.PendingLaws.{tiles-append}
-use Rattle.derivation_writer.specs.Division.{StepPut, CutAt, Cutting, Dividing, Divided}
-
--- four bytes stored
-module _ (s : List ℕ) (at a b c d : ℕ) (h : 4 * at + 3 < length s) where
-  one : List ℕ
-  one = set s (4 * at) a
-
-  two : List ℕ
-  two = set one (4 * at + 1) b
-
-  three : List ℕ
-  three = set two (4 * at + 2) c
-
-  written : List ℕ
-  written = set three (4 * at + 3) d
-
-  byte-0 : getD written (4 * at) 0 ≡ a
-  unfolding written three two one
-  byte-0 =
-      getD-set-other three (4 * at + 3) (4 * at) d 0 (omega arith)
-      ∙ (getD-set-other two (4 * at + 2) (4 * at) c 0 (omega arith)
-      ∙ (getD-set-other one (4 * at + 1) (4 * at) b 0 (omega arith) ∙ getD-set-same s (4 * at) a 0 (omega arith)))
-
-  byte-1 : getD written (4 * at + 1) 0 ≡ b
-  unfolding written three two one
-  byte-1 =
-      getD-set-other three (4 * at + 3) (4 * at + 1) d 0 (omega arith)
-      ∙ (getD-set-other two (4 * at + 2) (4 * at + 1) c 0 (omega arith) ∙ getD-set-same one (4 * at + 1) b 0 (simp length-set (omega arith)))
-
-  byte-2 : getD written (4 * at + 2) 0 ≡ c
-  unfolding written three two one
-  byte-2 = getD-set-other three (4 * at + 3) (4 * at + 2) d 0 (omega arith) ∙ getD-set-same two (4 * at + 2) c 0 (simp length-set (omega arith))
-
-  byte-3 : getD written (4 * at + 3) 0 ≡ d
-  unfolding written three two one
-  byte-3 = getD-set-same three (4 * at + 3) d 0 (simp length-set (omega arith))
-
-  others : (x : ℕ) → (x < 4 * at) ⊎ (4 * at + 4 ≤ x) → getD written x 0 ≡ getD s x 0
-  unfolding written three two one
-  others x o =
-      getD-set-other three (4 * at + 3) x d 0 (apart o 3 (omega arith))
-      ∙ (getD-set-other two (4 * at + 2) x c 0 (apart o 2 (omega arith))
-      ∙ (getD-set-other one (4 * at + 1) x b 0 (apart o 1 (omega arith)) ∙ getD-set-other s (4 * at) x a 0 (λ e. apart o 0 (omega arith) (omega arith))))
-    where
-      apart : (x < 4 * at) ⊎ (4 * at + 4 ≤ x) → (k : ℕ) → k < 4 → x ≡ 4 * at + k → ⊥
-      apart (inl p) k l e = omega arith
-      apart (inr p) k l e = omega arith
-
-pub step-put : (s : List ℕ) (at place q : ℕ) → 4 * at + 3 < length s
-    → StepPut s at place q (set (set (set (set s (4 * at) place) (4 * at + 1) 0) (4 * at + 2) (q / 2)) (4 * at + 3) (q % 2))
-unfolding step-at written three two one
-step-put s at place q h =
-    let t = written s at place 0 (q / 2) (q % 2) h in
-    let low : getD t (4 * at) 0 + 256 * getD t (4 * at + 1) 0 ≡ place
-    = omega (arith, byte-0 s at place 0 (q / 2) (q % 2) h, byte-1 s at place 0 (q / 2) (q % 2) h) in
-    record {
-      size = simp length-set;
-      others = others s at place 0 (q / 2) (q % 2) h;
-      step = λ i. record { place = low i; number = byte-2 s at place 0 (q / 2) (q % 2) h i; side = byte-3 s at place 0 (q / 2) (q % 2) h i };
-    }
+use Rattle.derivation_writer.specs.Division.{CutAt, Cutting, Dividing, Divided}
 
 -- a role that does not derive a part divides none there; one that does, where the others go on
 pub divides-not : {A B : Type 0} → (A → ⊥) → Reflects false (A × B)

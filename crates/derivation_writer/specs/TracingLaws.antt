@@ -20,7 +20,8 @@ use Rattle.book_questions.specs.RuleTableLaws.{left-length, left-below}
 use Rattle.derivation_writer.specs.Pending.{end-of, role-of, roles-of, Below, Tiles, left-over}
 use Rattle.derivation_writer.specs.Pending.Tiles.{none, more}
 use Rattle.derivation_writer.specs.PendingLaws.{tiles-append, tiles-below, left-over-append, tiles-long, left-over-less}
-use Rattle.derivation_writer.specs.Division.{StepPut, Divided}
+use Rattle.derivation_steps.specs.StepBytes.{StepPut}
+use Rattle.derivation_writer.specs.Division.{Divided}
 use Rattle.derivation_writer.specs.Tracing.{Ready, Pends, Tracing, Traced, Turned}
 use Rattle.derivation_writer.specs.declared.trace.Place.{Place}
 
@@ -188,7 +189,7 @@ module _ {table : List ℕ} {w : Chain} {chart : List ℕ} (ready : Ready table 
 
     -- it gives way to the left side of its rule, by a step more
     pub tracing-rule : (q : ℕ) → Given ready f q → {steps′ pending′ : List ℕ} {left : Chain} {top : ℕ} → left ≡ rule-in table (q / 2) (q % 2) .left
-        → StepPut steps (p .step) (p .link) q steps′ → Divided chart left (p .link) (top-end pending p) pending (p .top) pending′ top
+        → StepPut steps (p .step) (record { place = p .link; number = q / 2; side = q % 2 }) steps′ → Divided chart left (p .link) (top-end pending p) pending (p .top) pending′ top
         → Tracing ready role old steps′ pending′ (record { top = top; link = p .link; step = p .step + 1 })
     tracing-rule q g {steps′} {pending′} {left} {top} e s d =
         record {
@@ -254,7 +255,7 @@ module _ {table : List ℕ} {w : Chain} {chart steps pending : List ℕ} {p : Pl
   pub turned-rule : (q : ℕ) → q ≡ by chart (p .link) (top-end pending p) (top-role pending p)
       → ((top-end pending p ≡ p .link + 1) × (getD w (p .link) 0 ≡ top-role pending p) → ⊥)
       → {steps′ pending′ : List ℕ} {left : Chain} {top : ℕ} → left ≡ rule-in table (q / 2) (q % 2) .left
-      → StepPut steps (p .step) (p .link) q steps′ → Divided chart left (p .link) (top-end pending p) pending (p .top) pending′ top
+      → StepPut steps (p .step) (record { place = p .link; number = q / 2; side = q % 2 }) steps′ → Divided chart left (p .link) (top-end pending p) pending (p .top) pending′ top
       → Turned table w chart steps pending p steps′ pending′ (record { top = top; link = p .link; step = p .step + 1 })
   turned-rule q e n l s d =
       record {

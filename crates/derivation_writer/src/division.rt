@@ -1,26 +1,15 @@
-// A role gives way to the left side of its rule: the rule, the step that is written, and the parts of the left roles.
+// A role gives way to the left side of its rule: the rule, and the parts of the left roles.
 ghost use mathlib.Core.Path.{_≡_};
 ghost use Prim.Native.Nat.{ℕ, _+_, _*_, _/_, _%_, _<_, _≤_};
 ghost use lib.ListN.{length, getD, drop};
 ghost use Rattle.base.specs.Reflects.{Reflects};
 ghost use Rattle.derivation_charts.specs.Chart.{Found, Splits, by};
 ghost use Rattle.book_questions.specs.RuleTable.{rule-in};
-ghost use Rattle.derivation_writer.specs.Division.{StepPut, CutAt, Divided};
+ghost use Rattle.derivation_writer.specs.Division.{CutAt, Divided};
 use derivation_charts::derives;
 use derivation_charts::reach;
 use name_sets::has;
 use name_sets::single;
-
-// Writes step `at`: at a place, by the completed rule q.
-pub(crate) fn put(steps: &mut [u8], at: usize, place: usize, q: usize)
-    requires { ⌜ (4 * at + 3 < length (now steps)) × (place < 256) × (q < 512) ⌝ }
-    ensures { λ _. ⌜ StepPut (now (steps .entry)) at place q (now (steps .exit)) ⌝ }
-{
-    steps[4 * at] = place as u8;
-    steps[4 * at + 1] = 0;
-    steps[4 * at + 2] = (q / 2) as u8;
-    steps[4 * at + 3] = (q % 2) as u8;
-}
 
 // Whether the part from link i to `end` is one link, and that link the role.
 pub(crate) fn stands(chain: &[u8], i: usize, end: usize, role: u8) -> bool

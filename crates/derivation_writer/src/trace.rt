@@ -7,9 +7,10 @@ ghost use Rattle.derivation_writer.specs.Tracing.{Ready, Pends, Traced, 
 use crate::division::divide;
 use crate::division::left_of;
 use crate::division::pair;
-use crate::division::put;
 use crate::division::rule_by;
 use crate::division::stands;
+use derivation_steps::WrittenStep;
+use derivation_steps::put_step;
 
 // How far the writing is: the top of the pending roles, how many links stand, how many steps are written.
 struct Place {
@@ -83,7 +84,12 @@ fn turn(
         };
     }
     let q = rule_by(chart, i, end, role);
-    put(steps, at, i, q);
+    let step = WrittenStep {
+        place: i,
+        number: q / 2,
+        side: q % 2,
+    };
+    put_step(steps, at, step);
     let new_top = divide(chart, left_of(table, q), i, end, pending, top);
     Place {
         top: new_top,

@@ -30,7 +30,7 @@ loop-holds c =
     (refl, following-start (entry .table .now) (entry .header .rules) (entry .role) (entry .steps .now) _ (start .pre) (c .if1 .left) refl refl)
 
 step-of-requires : tie.Need-step-of-requires Inv-loop μ-loop
-step-of-requires c κs = omega arith
+step-of-requires c κs = search needs
 
 slice-aggregate-apply : tie.Need-slice-aggregate-apply Inv-loop μ-loop
 slice-aggregate-apply c = sym (c .before .before .before .loop .inv .1 .ready .room)
@@ -42,14 +42,14 @@ returns-2 : tie.Need-returns-2 Inv-loop μ-loop
 returns-2 c =
     let turn = c .before .before .before .before .before in
     let applied = c .before .before .apply .ensures in
-    following-stop (turn .before .loop .inv .1) (omega arith) (c .before .before .before .before .step-of .ensures) applied (c .if2 .taken) _
+    following-stop (turn .before .loop .inv .1) (omega arith) (c .before .before .before .before .step-of .ensures .whole (omega arith)) applied (c .if2 .taken) _
 
 loop-again : tie.Need-loop-again Inv-loop μ-loop
 loop-again c =
     let turn = c .before .before .before .before .before in
     let inv = turn .before .loop .inv in
     let applied = c .before .before .apply .ensures in
-    (inv .0, following-next (inv .1) (omega arith) (c .before .before .before .before .step-of .ensures) applied (c .if2 .left))
+    (inv .0, following-next (inv .1) (omega arith) (c .before .before .before .before .step-of .ensures .whole (omega arith)) applied (c .if2 .left))
 
 slice-aggregate-same : tie.Need-slice-aggregate-same Inv-loop μ-loop
 slice-aggregate-same c =

@@ -1,5 +1,5 @@
 -- `cut` meets its contract. The invariant: a place where the role can end is not before m.
-use Prim.Native.Nat.{_+_, _-_, _≤_}
+use Prim.Native.Nat.{_+_, _-_}
 use native.Mathlib.Omega.{arith}
 use borrow.Author.Needs.{needs}
 use Rattle.derivation_writer.specs.Division.{Cutting}

@@ -1,6 +1,9 @@
 -- `turn` meets its contract.
+use Prim.Native.Nat.{_/_, _%_}
 use native.Mathlib.Omega.{arith}
 use borrow.Author.Needs.{needs}
+use Rattle.derivation_steps.specs.StepBytes.{StepPut}
+use Rattle.derivation_steps.specs.StepBytesLaws.{put-small}
 use Rattle.derivation_writer.specs.TracingLaws.{First, first, first-inside, Given, given, turned-link, turned-rule}
 use Rattle.derivation_writer.proofs.trace.turn.Statement.{statement}
 use Rattle.derivation_writer.proofs.trace.turn.Tie as tie
@@ -23,8 +26,8 @@ cast-end c =
 stands-requires : tie.Need-stands-requires
 stands-requires c κs = let entry = c .before .before .before .before .before .before in first-inside (entry .pre .0 .0) (top-first entry)
 
-add-t20 : tie.Need-add-t20
-add-t20 c =
+add-link : tie.Need-add-t21
+add-link c =
     let entry = c .before .before .before .before .before .before .before .before in
     let inside = first-inside (entry .pre .0 .0) (top-first entry) in
     omega (arith, inside .0, inside .1, entry .pre .0 .0 .charted .short)
@@ -41,11 +44,13 @@ rule-by-requires c κs =
       omega (arith, inside .1, entry .pre .0 .0 .charted .short),
     )
 
-put-requires : tie.Need-put-requires
-put-requires c κs =
-    let entry = c .before .before .before .before .before .before .before .before .before .before in
+-- the step by it, in four bytes
+stored : (c : tie.After-put-step) → let entry = c .before .before .before .before .before .before .before .before .before .before .before in
+    StepPut (entry .args .steps .now) (entry .args .place .step) (record { place = entry .args .place .link; number = c .before .before .rule-by .result / 2; side = c .before .before .rule-by .result % 2 }) (c .put-step .last .0)
+stored c =
+    let entry = c .before .before .before .before .before .before .before .before .before .before .before in
     let inside = first-inside (entry .pre .0 .0) (top-first entry) in
-    (omega (arith, entry .pre .1 .1, entry .pre .1 .2), omega (arith, inside .0, inside .1, entry .pre .0 .0 .charted .short), by-rule (c .before) .small)
+    put-small _ _ _ _ (c .put-step .ensures) (omega (arith, entry .pre .1 .1, entry .pre .1 .2)) (omega (arith, inside .0, inside .1, entry .pre .0 .0 .charted .short)) (omega (arith, by-rule (c .before .before) .small)) (omega arith)
 
 left-of-requires : tie.Need-left-of-requires
 left-of-requires c κs =
@@ -60,8 +65,8 @@ divide-requires c κs =
     rw (c .before .left-of .ensures)
     ((g .room, omega (arith, entry .pre .1 .0, entry .pre .0 .1 .size), omega (arith, first-inside (entry .pre .0 .0) (top-first entry) .1, entry .pre .0 .0 .charted .short)), (λ k h. omega (arith, g .named k h, entry .pre .0 .0 .charted .few), g .splits))
 
-add-t15 : tie.Need-add-t15
-add-t15 c = let at-rule-by = c .before .before .before .before .before .before .before .before .before in omega (arith, at-rule-by .before .before .before .before .before .before .before .before .before .pre .1 .1)
+add-step : tie.Need-add-t16
+add-step c = let at-rule-by = c .before .before .before .before .before .before .before .before .before in omega (arith, at-rule-by .before .before .before .before .before .before .before .before .before .pre .1 .1)
 
 returns-2 : tie.Need-returns-2
 returns-2 c =
@@ -69,7 +74,7 @@ returns-2 c =
     let at-rule-by = at-put .before .before in
     let at-stands = at-rule-by .before .before in
     turned-rule (at-stands .before .before .before .before .before .before .before .pre .1 .0) _ (at-rule-by .rule-by .ensures) (at-stands .stands .ensures .fails (at-rule-by .before .if1 .left))
-    (c .before .before .before .before .left-of .ensures) (at-put .put .ensures) (c .before .before .divide .ensures)
+    (c .before .before .before .before .left-of .ensures) (stored at-put) (c .before .before .divide .ensures)
 
 pub turn-spec : {M : Type 1} → statement M
 turn-spec =
@@ -81,13 +86,13 @@ turn-spec =
     (λ c. search needs)
     stands-requires
     (λ c. search needs)
-    add-t20
+    add-link
     returns
     rule-by-requires
-    put-requires
+    (λ c κs. search needs)
     left-of-requires
     divide-requires
-    add-t15
+    add-step
     (λ c. search needs)
     (λ c. search needs)
     returns-2)

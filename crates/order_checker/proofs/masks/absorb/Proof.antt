@@ -1,6 +1,6 @@
 -- `absorb` meets its contract. The invariant: since the name itself has absorbed the set, the masks passed have grown, the others are as they were.
 use mathlib.Core.Path.{_∙_}
-use Prim.Native.Nat.{_≤_, _<_, _-_}
+use Prim.Native.Nat.{_≤_, _-_}
 use native.Mathlib.Omega.{arith}
 use borrow.Author.Needs.{needs}
 use lib.ListN.{length, length-set}
