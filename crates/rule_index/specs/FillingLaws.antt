@@ -16,9 +16,10 @@ use Rattle.book_format.specs.Place.{rule-at, rule-place}
 use Rattle.rule_shapes.specs.declared.Shape.{Shape}
 use Rattle.rule_shapes.specs.FoundShape.{shape-found}
 use Rattle.rule_shapes.specs.FoundShapeLaws.{found-shape, found-within}
-use Rattle.rule_index.specs.declared.numbers.Numbers.{Numbers}
+use Rattle.rule_shapes.specs.declared.numbers.Numbers.{Numbers}
+use Rattle.rule_shapes.specs.ShapeNumbers.{numbers}
 use Rattle.rule_index.specs.RuleIndex.{right-in, kind-in, from-in, to-in, size-in, first-in, level-in, flag-in, shape-by, Recorded}
-use Rattle.rule_index.specs.ShapeNumbers.{numbers, Says, numbers-say}
+use Rattle.rule_index.specs.NumberedShape.{Says, numbers-say}
 use Rattle.rule_index.specs.Filling.{Copied, Entered, Entering, Started}
 
 -- the numbers of a rule, one by one

@@ -1,7 +1,7 @@
 pub mod RuleLinks
 pub mod RuleKinds
 pub mod RuleIndex
-pub mod ShapeNumbers
+pub mod NumberedShape
 pub mod Filling
 pub mod FillingLaws
 pub mod LinkingLaws

@@ -9,15 +9,12 @@ ghost use lib.ListN.{length};
 ghost use Rattle.roles.specs.Rule.{Rule};
 ghost use Rattle.rule_index.specs.Filling.{Ruled, Entered, Entering, Started, Linkable, Linking};
 ghost use Rattle.rule_index.specs.Indexes.{Indexes};
-
-mod numbers;
-
 use book_cursor::Cursor;
 use book_cursor::Step;
 use book_decoder::Verdict;
-use numbers::numbers_of;
 use order_checker::order;
 use role_bytes::name;
+use rule_shapes::numbers_of;
 use rule_shapes::shape_of;
 
 // The verdict on a book by causes 1 to 8, and its depth: 0 where it is refused.

@@ -1,2 +1,3 @@
 pub mod FoundShape
 pub mod FoundShapeLaws
+pub mod ShapeNumbers

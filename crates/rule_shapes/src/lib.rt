@@ -1,7 +1,13 @@
-// The shape of a rule, by its letters: which of document 01's five forms it can have, and where its inner roles lie in its left side.
+// The shape of a rule, by its letters: which of document 01's five forms it can have, and where its inner roles lie in its left side;
+// and a shape in numbers.
 ghost use mathlib.Core.Bool.{true, false};
 ghost use mathlib.Core.Path.{_≡_};
 ghost use Rattle.rule_shapes.specs.FoundShape.{shape-found};
+
+mod numbers;
+
+pub use numbers::Numbers;
+pub use numbers::numbers_of;
 use role_bytes::inverse;
 
 pub enum Shape {

@@ -4,7 +4,7 @@ use Prim.Native.Nat.{_≤_, _-_, _+_}
 use native.Mathlib.Omega.{arith}
 use borrow.Author.Needs.{needs}
 use lib.ListN.{length-set}
-use Rattle.rule_index.specs.ShapeNumbers.{Says}
+use Rattle.rule_index.specs.NumberedShape.{Says}
 use Rattle.rule_index.specs.Filling.{Copied}
 use Rattle.rule_index.specs.FillingLaws.{copied-none, copied-more, copied-all, found-says}
 use Rattle.rule_index.proofs.enter_rule.Statement.{statement}

@@ -1,7 +1,7 @@
-// A shape in numbers, as the index has it.
+// A shape in numbers, for an index of rules.
 ghost use mathlib.Core.Path.{_≡_};
-ghost use Rattle.rule_index.specs.ShapeNumbers.{numbers};
-use rule_shapes::Shape;
+ghost use Rattle.rule_shapes.specs.ShapeNumbers.{numbers};
+use crate::Shape;
 
 // The kind, 0 for form 4, 1 for form 5 and 2 for a row; 1 where the row begins, and where it ends, at the final state; and the part of the left
 // side that the inner roles are.
@@ -14,7 +14,7 @@ pub struct Numbers {
 }
 
 // The numbers of a shape.
-pub(crate) fn numbers_of(shape: Shape) -> Numbers
+pub fn numbers_of(shape: Shape) -> Numbers
     ensures { λ r. ⌜ r ≡ numbers shape ⌝ }
 {
     match shape {

@@ -1,4 +1,4 @@
--- A shape in the numbers that an index keeps of it, and what they say.
+-- What the numbers of a shape, which an index keeps, say of a left side.
 use mathlib.Core.Bool.{Bool, true, false}
 use mathlib.Core.List.{List}
 use mathlib.Core.Path.{_≡_, refl}
@@ -10,13 +10,9 @@ use Rattle.base.specs.Part.{part}
 use Rattle.rule_shapes.specs.declared.Shape.{Shape}
 use Rattle.rule_shapes.specs.declared.Shape.the-variants.{Transitive, Symmetric, Row}
 use Rattle.rule_shapes.specs.FoundShape.{end, shape-in, Within}
-use Rattle.rule_index.specs.declared.numbers.Numbers.{Numbers}
+use Rattle.rule_shapes.specs.declared.numbers.Numbers.{Numbers}
+use Rattle.rule_shapes.specs.ShapeNumbers.{numbers}
 use Rattle.rule_index.specs.RuleIndex.{end-at, shape-by}
-
-abbrev pub numbers : Shape → Numbers
-numbers Transitive = record { kind = 0; from = 0; to = 0; start = 0; size = 0 }
-numbers Symmetric = record { kind = 1; from = 0; to = 0; start = 0; size = 0 }
-numbers (Row r) = record { kind = 2; from = boolByte (r .from); to = boolByte (r .to); start = r .start; size = r .size }
 
 -- what the numbers of a shape say of a left side
 pub record Says (left : List ℕ) (sh : Shape) (n : Numbers) : Type 0 where

@@ -1,9 +1,9 @@
 -- `numbers_of` meets its contract, by the shape.
 use mathlib.Core.Path.{sym, ap, _∙_}
 use borrow.Author.Needs.{needs}
-use Rattle.rule_index.specs.ShapeNumbers.{numbers}
-use Rattle.rule_index.proofs.numbers.numbers_of.Statement.{statement}
-use Rattle.rule_index.proofs.numbers.numbers_of.Tie as tie
+use Rattle.rule_shapes.specs.ShapeNumbers.{numbers}
+use Rattle.rule_shapes.proofs.numbers.numbers_of.Statement.{statement}
+use Rattle.rule_shapes.proofs.numbers.numbers_of.Tie as tie
 
 pub numbers-of-spec : {M : Type 1} → statement M
 numbers-of-spec =
