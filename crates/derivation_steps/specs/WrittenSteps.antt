@@ -1,4 +1,5 @@
--- Derivations written out in bytes, step by step (document 02: slips), and what checking one gives.
+-- Derivations written out in bytes, step by step (document 02: slips), and what checking one gives. A step is a `WrittenStep` of src/lib.rt: a place of the
+-- present chain, the number of a rule, and side 0 for the rule as it stands or 1 for its inverse.
 use mathlib.Core.Bool.{Bool, cond, _&&_}
 use mathlib.Core.List.{List, [], _∷_, _++_}
 use Prim.Native.Nat.{ℕ, zero, suc, _+_, _*_, _/_, _%_}
