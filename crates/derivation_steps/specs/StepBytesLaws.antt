@@ -1,12 +1,14 @@
 -- Four bytes stored are the step that is read there then.
-use mathlib.Core.List.{List}
+use mathlib.Core.List.{List, [], _∷_}
 use mathlib.Core.Logic.{_⊎_, inl, inr}
-use mathlib.Core.Path.{_≡_, refl, _∙_, subst}
-use Prim.Native.Nat.{ℕ, _+_, _*_, _/_, _%_, _<_, _≤_}
+use mathlib.Core.Path.{_≡_, refl, sym, ap, _∙_, subst}
+use Prim.Native.Nat.{ℕ, suc, _+_, _*_, _/_, _%_, _<_, _≤_}
 use native.Mathlib.Nat.{mod-eq-of-lt}
+use native.Mathlib.Numerals.{add-one, add-two}
 use native.Mathlib.Omega.{arith}
-use lib.ListN.{length, getD, set, length-set}
-use lib.Seq.{getD-set-same, getD-set-other}
+use lib.ListN.{length, getD, set}
+use lib.Seq.{sets, length-sets}
+use Rattle.base.specs.WritingLaws.{getD-before, getD-behind, getD-stored}
 use Rattle.derivation_steps.specs.declared.WrittenStep.{WrittenStep}
 use Rattle.derivation_steps.specs.WrittenSteps.{step-at}
 use Rattle.derivation_steps.specs.StepBytes.{Reads, low, StepPut, Puts}
@@ -21,76 +23,45 @@ reads-whole s k t h e = record { whole = λ l. e; none = λ l. absurd (let f : �
 pub puts-none : (s : List ℕ) (k : ℕ) (t : WrittenStep) → length s / 4 ≤ k → Puts s k t s
 puts-none s k t h = record { whole = λ l. absurd (let f : ⊥ = omega arith in f); none = λ l. refl }
 
--- four bytes stored
-module _ (s : List ℕ) (at a b c d : ℕ) (h : 4 * at + 3 < length s) where
-  one : List ℕ
-  one = set s (4 * at) a
-
-  two : List ℕ
-  two = set one (4 * at + 1) b
-
-  three : List ℕ
-  three = set two (4 * at + 2) c
-
-  written : List ℕ
-  written = set three (4 * at + 3) d
-
-  byte-0 : getD written (4 * at) 0 ≡ a
-  unfolding written three two one
-  byte-0 =
-      getD-set-other three (4 * at + 3) (4 * at) d 0 (omega arith)
-      ∙ (getD-set-other two (4 * at + 2) (4 * at) c 0 (omega arith)
-      ∙ (getD-set-other one (4 * at + 1) (4 * at) b 0 (omega arith) ∙ getD-set-same s (4 * at) a 0 (omega arith)))
-
-  byte-1 : getD written (4 * at + 1) 0 ≡ b
-  unfolding written three two one
-  byte-1 =
-      getD-set-other three (4 * at + 3) (4 * at + 1) d 0 (omega arith)
-      ∙ (getD-set-other two (4 * at + 2) (4 * at + 1) c 0 (omega arith) ∙ getD-set-same one (4 * at + 1) b 0 (simp length-set (omega arith)))
-
-  byte-2 : getD written (4 * at + 2) 0 ≡ c
-  unfolding written three two one
-  byte-2 = getD-set-other three (4 * at + 3) (4 * at + 2) d 0 (omega arith) ∙ getD-set-same two (4 * at + 2) c 0 (simp length-set (omega arith))
-
-  byte-3 : getD written (4 * at + 3) 0 ≡ d
-  unfolding written three two one
-  byte-3 = getD-set-same three (4 * at + 3) d 0 (simp length-set (omega arith))
-
-  others : (x : ℕ) → (x < 4 * at) ⊎ (4 * at + 4 ≤ x) → getD written x 0 ≡ getD s x 0
-  unfolding written three two one
-  others x o =
-      getD-set-other three (4 * at + 3) x d 0 (apart o 3 (omega arith))
-      ∙ (getD-set-other two (4 * at + 2) x c 0 (apart o 2 (omega arith))
-      ∙ (getD-set-other one (4 * at + 1) x b 0 (apart o 1 (omega arith)) ∙ getD-set-other s (4 * at) x a 0 (λ e. apart o 0 (omega arith) (omega arith))))
-    where
-      apart : (x < 4 * at) ⊎ (4 * at + 4 ≤ x) → (k : ℕ) → k < 4 → x ≡ 4 * at + k → ⊥
-      apart (inl p) k l e = omega arith
-      apart (inr p) k l e = omega arith
-
+-- four bytes stored, one after another
 pub puts-whole : (s : List ℕ) (k : ℕ) (t : WrittenStep) → k < length s / 4
     → Puts s k t (set (set (set (set s (4 * k) (t .place % 256)) (4 * k + 1) (t .place / 256 % 256)) (4 * k + 2) (t .number % 256)) (4 * k + 3) (t .side % 256))
-unfolding step-at written three two one
+unfolding step-at
 puts-whole s k t h = record { whole = λ l. put; none = λ l. absurd (let f : ⊥ = omega arith in f) }
   where
-    a : ℕ
-    a = t .place % 256
+    bytes : List ℕ
+    bytes = t .place % 256 ∷ t .place / 256 % 256 ∷ t .number % 256 ∷ t .side % 256 ∷ []
 
-    b : ℕ
-    b = t .place / 256 % 256
+    new : List ℕ
+    new = sets s (4 * k) bytes
 
-    room : 4 * k + 3 < length s
-    room = omega arith
+    same : set (set (set (set s (4 * k) (t .place % 256)) (4 * k + 1) (t .place / 256 % 256)) (4 * k + 2) (t .number % 256)) (4 * k + 3) (t .side % 256) ≡ new
+    same = rw (add-one (4 * k), add-two (4 * k), three) refl
+      where
+        three : 4 * k + 3 ≡ suc (suc (suc (4 * k)))
+        three = omega arith
 
-    place : getD (written s k a b (t .number % 256) (t .side % 256) room) (4 * k) 0 + 256 * getD (written s k a b (t .number % 256) (t .side % 256) room) (4 * k + 1) 0 ≡ t .place % 65536
-    place = omega (arith, byte-0 s k a b (t .number % 256) (t .side % 256) room, byte-1 s k a b (t .number % 256) (t .side % 256) room)
+    byte : (x : ℕ) → x < 4 → getD new (4 * k + x) 0 ≡ getD bytes x 0
+    byte x l = getD-stored bytes s (4 * k) x l (omega arith)
 
-    put : StepPut s k (low t) (written s k a b (t .number % 256) (t .side % 256) room)
+    low-byte : getD new (4 * k) 0 ≡ t .place % 256
+    low-byte = ap (λ (x : ℕ). getD new x 0) (let e : 4 * k ≡ 4 * k + 0 = omega arith in e) ∙ byte 0 (omega arith)
+
+    place : getD new (4 * k) 0 + 256 * getD new (4 * k + 1) 0 ≡ t .place % 65536
+    place = omega (arith, low-byte, byte 1 (omega arith))
+
+    others : (x : ℕ) → (x < 4 * k) ⊎ (4 * k + 4 ≤ x) → getD new x 0 ≡ getD s x 0
+    others x (inl l) = getD-before bytes s (4 * k) x l
+    others x (inr l) = getD-behind bytes s (4 * k) x l
+
+    put : StepPut s k (low t) (set (set (set (set s (4 * k) (t .place % 256)) (4 * k + 1) (t .place / 256 % 256)) (4 * k + 2) (t .number % 256)) (4 * k + 3) (t .side % 256))
     put =
-        record {
-          size = simp length-set;
-          others = others s k a b (t .number % 256) (t .side % 256) room;
-          step = λ i. record { place = place i; number = byte-2 s k a b (t .number % 256) (t .side % 256) room i; side = byte-3 s k a b (t .number % 256) (t .side % 256) room i };
-        }
+        subst (StepPut s k (low t)) (sym same)
+        (record {
+          size = length-sets s (4 * k) bytes;
+          others = others;
+          step = λ i. record { place = place i; number = byte 2 (omega arith) i; side = byte 3 (omega arith) i };
+        })
 
 -- a step that has room in four bytes is written as it is
 pub put-small : (old : List ℕ) (k : ℕ) (t : WrittenStep) (new : List ℕ) → Puts old k t new → 4 * k + 4 ≤ length old → t .place < 65536 → t .number < 256 → t .side < 256

@@ -7,12 +7,13 @@ use native.Mathlib.Omega.{arith}
 use lib.ListN.{length, getD, set, length-set}
 use lib.Seq.{sets, getD-set-same, getD-set-other}
 use Rattle.base.specs.Truth.{lt-or-le, eq-or-ne}
+use Rattle.base.specs.WritingLaws.{getD-before, getD-stored}
 use Rattle.roles.specs.Role.{name}
 use Rattle.roles.specs.Rule.{Rule}
 use Rattle.tables.specs.Tables.{Transition, size-of, transitions-of, numbers}
 use Rattle.rule_index.specs.RuleIndex.{Indexed, level-in}
 use Rattle.table_laying.specs.Pieces.{length-numbers}
-use Rattle.table_laying.specs.Laid.{laid-none, getD-before, getD-stored}
+use Rattle.table_laying.specs.Laid.{laid-none}
 use Rattle.table_laying.specs.Fragment.{laid-states}
 use Rattle.table_laying.specs.ShiftedLaws.{fragment-shifted}
 use Rattle.table_writer.specs.Adding.{Lays, Added, begun}

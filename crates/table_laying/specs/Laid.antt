@@ -4,12 +4,12 @@
 use mathlib.Core.List.{List, [], _∷_, _++_}
 use mathlib.Core.Logic.{_⊎_, inl, inr}
 use mathlib.Core.Path.{_≡_, refl, sym, ap, _∙_}
-use Prim.Native.Nat.{ℕ, zero, suc, _+_, _*_, _<_, _≤_}
-use native.Mathlib.Nat.{zero-add, not-suc-le-zero, le-of-suc-le-suc}
+use Prim.Native.Nat.{ℕ, _+_, _*_, _<_, _≤_}
+use native.Mathlib.Nat.{zero-add}
 use native.Mathlib.Numerals.{add-one, add-two}
 use native.Mathlib.Omega.{arith}
-use lib.ListN.{length, getD, set, length-set, length-append}
-use lib.Seq.{sets, length-sets, getD-set-same, getD-set-other}
+use lib.ListN.{length, set, length-append}
+use lib.Seq.{sets, length-sets}
 use Rattle.base.specs.WritingLaws.{sets-append}
 use Rattle.base.specs.Truth.{lt-or-le}
 use Rattle.roles.specs.Role.{Chain}
@@ -160,17 +160,3 @@ laid-past t p k m g =
       full = λ h l. absurd (let e : ⊥ = omega arith in e);
       exact = λ h l f. absurd (let e : ⊥ = omega arith in e);
     }
-
--- numbers stored from a place on: those before it are kept, and each stands at its place
-pub getD-before : (xs m : List ℕ) (i x : ℕ) → x < i → getD (sets m i xs) x 0 ≡ getD m x 0
-getD-before [] m i x h = refl
-getD-before (a ∷ xs) m i x h = getD-before xs (set m i a) (suc i) x (omega arith) ∙ getD-set-other m i x a 0 (λ e. let f : ⊥ = omega arith in f)
-
-pub getD-stored : (xs m : List ℕ) (i x : ℕ) → x < length xs → i + length xs ≤ length m → getD (sets m i xs) (i + x) 0 ≡ getD xs x 0
-getD-stored [] m i x h l = absurd (not-suc-le-zero h)
-getD-stored (a ∷ xs) m i zero h l =
-    let e : i + 0 ≡ i = omega arith in
-    rw e (getD-before xs (set m i a) (suc i) i (omega arith) ∙ getD-set-same m i a 0 (omega arith))
-getD-stored (a ∷ xs) m i (suc x) h l =
-    let e : i + suc x ≡ suc i + x = omega arith in
-    rw e (getD-stored xs (set m i a) (suc i) x (le-of-suc-le-suc h) (rw length-set (omega arith)))
