@@ -1,50 +1,54 @@
--- Laws of keys in lists: no key is entered at first; one more enters; a walk along a key's list meets it where it is one of the first keys.
-use mathlib.Core.Bool.{true, false, or-true}
+-- Laws of keys in lists: no key is entered at first; one more enters; a walk along a list meets every key with its remainder, and so finds whether
+-- a key is one of those before an entry.
+use mathlib.Core.Bool.{true, false, or-true, or-false}
 use mathlib.Core.List.{List}
 use mathlib.Core.Logic.{_⊎_, inl, inr}
-use mathlib.Core.Path.{_≡_, refl, sym, ap}
+use mathlib.Core.Path.{_≡_, refl, sym, ap, _∙_}
 use Prim.Native.Nat.{ℕ, zero, suc, _+_, _-_, _%_, _<_, _≤_}
 use native.Mathlib.Omega.{arith}
 use borrow.Author.Tests.{eq-eqb, ne-eqb}
 use lib.ListN.{getD, set, replicate, length-set, length-replicate, getD-replicate}
 use lib.Seq.{getD-set-same, getD-set-other}
-use Rattle.base.specs.Truth.{lt-or-le}
+use Rattle.base.specs.Truth.{or-left, lt-or-le}
 use Rattle.linked_lists.specs.LinkedLists.{Latest}
-use Rattle.linked_lists.specs.LinkedListsLaws.{linked-none, linked-same, linked-more, next-less, next-own, met}
-use Rattle.book_reader.specs.Entered.{bucket, Entered, among}
+use Rattle.linked_lists.specs.LinkedListsLaws as walk
+use Rattle.book_reader.specs.Entered.{list-of, Entered, InList, Listed, among}
 
-pub entered-none : Entered (replicate 256 0) (replicate 512 0) 0
-entered-none =
+pub entered-none : (lists : ℕ) → lists ≤ 256 → Entered lists (replicate 256 0) (replicate (lists + 256) 0) 0
+entered-none lists few =
     record {
       places = length-replicate {A = ℕ} 256 0;
-      entries = length-replicate {A = ℕ} 512 0;
+      entries = length-replicate {A = ℕ} (lists + 256) 0;
+      few = few;
       linked =
-          linked-none (bucket (replicate 256 0)) 256 (replicate 512 0) (rw (length-replicate {A = ℕ} 512 0) (omega arith))
-          (λ x p. getD-replicate {A = ℕ} 512 x 0 0 (omega arith));
+          walk.linked-none (list-of lists (replicate 256 0)) lists (replicate (lists + 256) 0)
+          (rw (length-replicate {A = ℕ} (lists + 256) 0) (omega arith)) (λ x p. getD-replicate {A = ℕ} (lists + 256) x 0 0 (omega arith));
     }
 
 -- one more key enters
-module _ {keys index : List ℕ} {count : ℕ} (x : ℕ) (so-far : Entered keys index count) (space : count < 256) where
-  own-bucket : bucket (set keys count x) count ≡ x % 251
-  own-bucket = ap (λ (n : ℕ). n % 251) (getD-set-same keys count x 0 (omega (arith, so-far .places)))
+module _ {lists : ℕ} {keys index : List ℕ} {count : ℕ} (so-far : Entered lists keys index count) (x list : ℕ) (own : list ≡ x % lists)
+    (small : list < lists) (space : count < 256) where
+  own-list : list-of lists (set keys count x) count ≡ list
+  own-list = ap (λ (n : ℕ). n % lists) (getD-set-same keys count x 0 (omega (arith, so-far .places))) ∙ sym own
 
-  other-buckets : (k : ℕ) → k < count → bucket keys k ≡ bucket (set keys count x) k
-  other-buckets k l = ap (λ (n : ℕ). n % 251) (sym (getD-set-other keys count k x 0 (omega arith)))
+  other-lists : (k : ℕ) → k < count → list-of lists keys k ≡ list-of lists (set keys count x) k
+  other-lists k l = ap (λ (n : ℕ). n % lists) (sym (getD-set-other keys count k x 0 (omega arith)))
 
-  pub entered-more : Entered (set keys count x) (set (set index (256 + count) (getD index (x % 251) 0)) (x % 251) (count + 1)) (count + 1)
+  pub entered-more : Entered lists (set keys count x) (set (set index (lists + count) (getD index list 0)) list (count + 1)) (count + 1)
   entered-more =
       record {
         places = simp length-set (so-far .places);
         entries = simp length-set (so-far .entries);
+        few = so-far .few;
         linked =
-            rw own-bucket at
-            (linked-more (bucket (set keys count x)) 256 index count
-            (linked-same (bucket keys) (bucket (set keys count x)) 256 index count other-buckets (so-far .linked))
-            (omega (arith, so-far .entries)) (rw own-bucket (omega arith)));
+            rw own-list at
+            (walk.linked-more (list-of lists (set keys count x)) lists index count
+            (walk.linked-same (list-of lists keys) (list-of lists (set keys count x)) lists index count other-lists (so-far .linked))
+            (omega (arith, so-far .entries)) (rw own-list small));
       }
 
 -- whether a number is one of the first keys, by the keys
-among-found : (keys : List ℕ) (x count k : ℕ) → k < count → getD keys k 0 ≡ x → among keys count x ≡ true
+pub among-found : (keys : List ℕ) (x count k : ℕ) → k < count → getD keys k 0 ≡ x → among keys count x ≡ true
 unfolding among
 among-found keys x zero k l e = absurd (omega arith)
 among-found keys x (suc m) k l e = by-place (λ (p : k < m). among-found keys x m k p e) (lt-or-le k m)
@@ -55,50 +59,114 @@ among-found keys x (suc m) k l e = by-place (λ (p : k < m). among-found keys x 
         let d : k ≡ m = omega arith in
         rw (eq-eqb x (getD keys m 0) (sym (rw d at e))) (or-true (among keys m x))
 
-among-none : (keys : List ℕ) (x count : ℕ) → ((k : ℕ) → k < count → getD keys k 0 ≡ x → ⊥) → among keys count x ≡ false
+pub among-none : (keys : List ℕ) (x count : ℕ) → ((k : ℕ) → k < count → getD keys k 0 ≡ x → ⊥) → among keys count x ≡ false
 unfolding among
 among-none keys x zero h = refl
 among-none keys x (suc m) h =
     rw (among-none keys x m (λ k l. h k (omega arith)), ne-eqb x (getD keys m 0) (λ e. h m (omega arith) (sym e))) refl
 
--- a walk along the list of x, at an entry of it: no key from there on is x
-pub record Walked (keys : List ℕ) (count x at : ℕ) : Type 0 where
-  pub low : at ≤ count
-  pub own : 0 < at → bucket keys (at - 1) ≡ x % 251
-  pub passed : (k : ℕ) → at ≤ k → k < count → getD keys k 0 ≡ x → ⊥
+-- keys that are others count for nothing
+among-skip : (keys : List ℕ) (x count more : ℕ) → ((k : ℕ) → count ≤ k → k < count + more → getD keys k 0 ≡ x → ⊥)
+    → among keys (count + more) x ≡ among keys count x
+unfolding among
+among-skip keys x count zero h = let e : count + 0 ≡ count = omega arith in rw e refl
+among-skip keys x count (suc m) h =
+    let e : count + suc m ≡ suc (count + m) = omega arith in
+    rw (e, among-skip keys x count m (λ k l p. h k l (omega arith)), ne-eqb x (getD keys (count + m) 0) (λ d. h (count + m) (omega arith) (omega arith) (sym d)))
+    (or-false (among keys count x))
 
-module _ {keys index : List ℕ} {count x : ℕ} (entered : Entered keys index count) where
-  pub walked-start : Walked keys count x (getD index (x % 251) 0)
-  walked-start =
-      let here : Latest (bucket keys) (x % 251) count (getD index (x % 251) 0) = entered .linked .last (x % 251) (omega arith) in
+-- one more key, and the keys before it
+pub among-set : (keys : List ℕ) (x y count place : ℕ) → count ≤ place → among (set keys place y) count x ≡ among keys count x
+unfolding among
+among-set keys x y zero place l = refl
+among-set keys x y (suc m) place l = rw (among-set keys x y m place (omega arith), getD-set-other keys place m y 0 (omega arith)) refl
+
+pub among-more : (keys : List ℕ) (x y count : ℕ) → among keys count x ≡ true → among (set keys count y) (count + 1) x ≡ true
+unfolding among
+among-more keys x y count h =
+    let e : count + 1 ≡ suc count = omega arith in
+    rw e (or-left (among (set keys count y) count x) _ (among-set keys x y count count (omega arith) ∙ h))
+
+-- the last entry of x's list before a bound: an entry of it, and no key from there up to the bound is x
+module _ {lists : ℕ} {keys index : List ℕ} {count : ℕ} (entered : Entered lists keys index count) (x : ℕ) {bound entry : ℕ}
+    (here : Latest (list-of lists keys) (x % lists) bound entry) where
+  pub latest-listed : bound ≤ count → Listed lists keys index entry x
+  latest-listed l = record { count = count; entered = entered; here = record { low = omega (arith, here .low); own = here .own } }
+
+  pub latest-among : among keys bound x ≡ among keys entry x
+  latest-among =
+      let e : entry + (bound - entry) ≡ bound = omega (arith, here .low) in
+      rw e at (among-skip keys x entry (bound - entry) (λ k l p d. here .none-later k l (omega arith) (ap (λ (n : ℕ). n % lists) d)))
+
+-- the next entry of a list
+module _ {lists : ℕ} {keys index : List ℕ} {count : ℕ} (entered : Entered lists keys index count) {x entry : ℕ}
+    (here : InList lists keys count x entry) (some : 0 < entry) where
+  pub next-less : getD index (lists + (entry - 1)) 0 < entry
+  next-less = walk.next-less (list-of lists keys) lists index count (entered .linked) (x % lists) entry (here .low) (here .own) some
+
+  pub next-in : InList lists keys count x (getD index (lists + (entry - 1)) 0)
+  next-in =
       record {
-        low = here .low;
-        own = here .own;
-        passed = λ k l i e. here .none-later k l i (ap (λ (n : ℕ). n % 251) e);
+        low = omega (arith, next-less, here .low);
+        own = walk.next-own (list-of lists keys) lists index count (entered .linked) (x % lists) entry (here .low) (here .own) some;
       }
 
-  module _ {at : ℕ} (so-far : Walked keys count x at) (some : 0 < at) where
-    pub walked-less : getD index (256 + (at - 1)) 0 < at
-    walked-less = next-less (bucket keys) 256 index count (entered .linked) (x % 251) at (so-far .low) (so-far .own) some
+  -- a key of the list from the next entry on is this one or one from this entry on
+  pub next-met : (k : ℕ) → getD index (lists + (entry - 1)) 0 ≤ k → list-of lists keys k ≡ x % lists → (k ≡ entry - 1) ⊎ (entry ≤ k)
+  next-met = walk.met (list-of lists keys) lists index count (entered .linked) (x % lists) entry (here .low) (here .own) some
 
-    pub walked-next : (getD keys (at - 1) 0 ≡ x → ⊥) → Walked keys count x (getD index (256 + (at - 1)) 0)
-    walked-next d =
+-- a walk along the list of x from an entry on has come to another: no key between them is x
+pub record Walked (lists : ℕ) (keys index : List ℕ) (x last at : ℕ) : Type 0 where
+  pub listed : Listed lists keys index at x
+  pub back : at ≤ last
+  pub passed : (k : ℕ) → at ≤ k → k < last → getD keys k 0 ≡ x → ⊥
+
+module _ {lists : ℕ} {keys index : List ℕ} {x last : ℕ} where
+  pub walked-start : Listed lists keys index last x → Walked lists keys index x last last
+  walked-start start = record { listed = start; back = omega arith; passed = λ k l i. absurd (omega arith) }
+
+  module _ {at : ℕ} (so-far : Walked lists keys index x last at) where
+    -- there are 256 places, and so many entries behind the lists
+    pub walked-low : at ≤ 256
+    walked-low = let entered = so-far .listed .entered in omega (arith, so-far .listed .here .low, entered .linked .space, entered .entries)
+
+    pub walked-less : 0 < at → getD index (lists + (at - 1)) 0 < at
+    walked-less some = next-less (so-far .listed .entered) (so-far .listed .here) some
+
+    pub walked-next : 0 < at → (getD keys (at - 1) 0 ≡ x → ⊥) → Walked lists keys index x last (getD index (lists + (at - 1)) 0)
+    walked-next some d =
+        let entered = so-far .listed .entered in
         record {
-          low = omega (arith, walked-less, so-far .low);
-          own = next-own (bucket keys) 256 index count (entered .linked) (x % 251) at (so-far .low) (so-far .own) some;
-          passed =
-              λ k l i e.
-              by-place k i e
-              (met (bucket keys) 256 index count (entered .linked) (x % 251) at (so-far .low) (so-far .own) some k l
-              (ap (λ (n : ℕ). n % 251) e));
+          listed = record { count = so-far .listed .count; entered = entered; here = next-in entered (so-far .listed .here) some };
+          back = omega (arith, walked-less some, so-far .back);
+          passed = λ k l i e. by-place k i e (next-met entered (so-far .listed .here) some k l (ap (λ (n : ℕ). n % lists) e));
         }
       where
-        by-place : (k : ℕ) → k < count → getD keys k 0 ≡ x → (k ≡ at - 1) ⊎ (at ≤ k) → ⊥
+        by-place : (k : ℕ) → k < last → getD keys k 0 ≡ x → (k ≡ at - 1) ⊎ (at ≤ k) → ⊥
         by-place k i e (inl p) = d (rw (← p) e)
         by-place k i e (inr p) = so-far .passed k p i e
 
-    pub walked-found : getD keys (at - 1) 0 ≡ x → among keys count x ≡ true
-    walked-found = among-found keys x count (at - 1) (omega (arith, so-far .low))
+    pub walked-found : 0 < at → getD keys (at - 1) 0 ≡ x → among keys last x ≡ true
+    walked-found some = among-found keys x last (at - 1) (omega (arith, so-far .back))
 
-  pub walked-end : {at : ℕ} → at ≡ 0 → Walked keys count x at → among keys count x ≡ false
-  walked-end e h = among-none keys x count (λ k l. h .passed k (omega arith) l)
+    pub walked-end : at ≡ 0 → among keys last x ≡ false
+    walked-end e = among-none keys x last (λ k l. so-far .passed k (omega arith) l)
+
+-- a key that is looked for among all the first ones, by the last entry of its list, or the key at a place among those before it, by the entry for that place
+module _ {lists : ℕ} {keys index : List ℕ} {count : ℕ} (entered : Entered lists keys index count) where
+  module _ (x list : ℕ) (own : list ≡ x % lists) (small : list < lists) where
+    last-latest : Latest (list-of lists keys) (x % lists) count (getD index list 0)
+    last-latest = rw (← own) (entered .linked .last list small)
+
+    pub last-listed : Listed lists keys index (getD index list 0) x
+    last-listed = latest-listed entered x last-latest (omega arith)
+
+    pub last-among : among keys count x ≡ among keys (getD index list 0) x
+    last-among = latest-among entered x last-latest
+
+  module _ (k : ℕ) (inside : k < count) where
+    pub before-listed : Listed lists keys index (getD index (lists + k) 0) (getD keys k 0)
+    before-listed = latest-listed entered (getD keys k 0) (entered .linked .before k inside) (omega arith)
+
+    pub before-among : among keys k (getD keys k 0) ≡ among keys (getD index (lists + k) 0) (getD keys k 0)
+    before-among = latest-among entered (getD keys k 0) (entered .linked .before k inside)

@@ -1,4 +1,7 @@
 pub mod Entered
 pub mod EnteredLaws
+pub mod Lowest
+pub mod LowestLaws
+pub mod RelationLaws
 pub mod ShortLaws
 pub mod RepeatSearchLaws

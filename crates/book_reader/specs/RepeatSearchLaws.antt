@@ -1,27 +1,29 @@
--- Cause 7 by keys: a rule repeats an earlier one exactly where its key is one of the earlier keys; the search for the lowest repeat, as a loop runs it.
+-- Cause 7 by keys: a rule repeats an earlier one exactly where its key is one of the earlier keys; the search for the lowest repeat, rule by rule as a
+-- loop runs it, or by the lowest over all names.
 use mathlib.Core.Bool.{Bool, true, false, _||_}
 use mathlib.Core.List.{List, []}
 use mathlib.Core.Logic.{_⊎_, inl, inr}
 use mathlib.Core.Path.{_≡_, refl, sym, ap, _∙_}
-use Prim.Native.Nat.{ℕ, zero, suc, _+_, _<_, _≤_}
+use Prim.Native.Nat.{ℕ, zero, suc, _+_, _%_, _<_, _≤_}
+use native.Mathlib.Numerals.{add-one}
 use native.Mathlib.Omega.{arith}
-use lib.ListN.{length, getD, set, replicate}
+use lib.ListN.{length, getD, set}
 use lib.Seq.{getD-set-same, getD-set-other}
 use Rattle.base.specs.Truth.{lt-or-le}
 use Rattle.roles.specs.Rule.{Rule}
-use Rattle.base.specs.Result.Result.{refused}
+use Rattle.base.specs.Result.Result.{refused, ok}
 use Rattle.book_format.specs.Format.{repeats, distinct}
 use Rattle.book_format.specs.Place.{rule-at, rule-place, first-rules}
-use Rattle.book_format.specs.RepeatLaws.{repeats-next, Searching, searching-start, searching-next, searching-found}
+use Rattle.book_format.specs.RepeatLaws.{repeats-next, Searching, searching-start, searching-next, searching-found, searching-end}
 use Rattle.rule_keys.specs.Key.{key, Short}
-use Rattle.rule_keys.specs.KeyLaws.{same-key}
+use Rattle.rule_keys.specs.KeyLaws.{same-key, key-name}
 use Rattle.book_header.specs.declared.Header.{Header}
 use Rattle.book_reader.specs.Entered.{Entered, among}
-use Rattle.book_reader.specs.EnteredLaws.{entered-none}
+use Rattle.book_reader.specs.Lowest.{repeated, Lowest}
 use Rattle.book_reader.specs.ShortLaws.{Bounded}
 
 -- the first keys are those of the first rules
-abbrev Keyed : List ℕ → List ℕ → ℕ → Type 0
+abbrev pub Keyed : List ℕ → List ℕ → ℕ → Type 0
 Keyed s keys n = (k : ℕ) → k < n → getD keys k 0 ≡ key (rule-at s (rule-place s k))
 
 module _ (s keys : List ℕ) where
@@ -40,39 +42,51 @@ module _ (s keys : List ℕ) where
       rw (repeats-next s ρ n, ← among-repeats ρ n short (λ k l. shorts k (omega arith)) (λ k l. h k (omega arith)), h n (omega arith))
       (ap (λ (t : Bool). among keys n (key ρ) || t) (same-key ρ (rule-at s (rule-place s n)) short (shorts n (omega arith))))
 
--- the search has come to rule k, and the keys of the rules before it are entered
-pub record Searched (s : List ℕ) (h : Header) (keys index : List ℕ) (k : ℕ) : Type 0 where
-  pub searching : Searching s (h .names) (h .rules) k
-  pub entered : Entered keys index k
+-- the rules before rule k have been met, and their keys are in lists
+pub record Met (lists : ℕ) (s keys index : List ℕ) (k : ℕ) : Type 0 where
+  pub entered : Entered lists keys index k
   pub keyed : Keyed s keys k
 
-module _ {s : List ℕ} {h : Header} where
-  pub searched-start : Searched s h (replicate 256 0) (replicate 512 0) 0
-  searched-start =
-      record {
-        searching = searching-start;
-        entered = entered-none;
-        keyed = λ k l. absurd (omega arith);
-      }
+module _ {s : List ℕ} {h : Header} (bounds : Bounded s h) where
+  repeated-rule : (keys : List ℕ) {k : ℕ} → k < h .rules → Keyed s keys k → {x : ℕ} → x ≡ key (rule-at s (rule-place s k))
+      → among keys k x ≡ repeats (rule-at s (rule-place s k)) (first-rules s k)
+  repeated-rule keys {k} inside keyed e =
+      rw e (among-repeats s keys (rule-at s (rule-place s k)) k (bounds .short k inside) (λ j l. bounds .short j (omega arith)) keyed)
 
-  -- at rule k, which is ρ and has the key x
-  module _ (bounds : Bounded s h) {keys index : List ℕ} {k : ℕ} (so-far : Searched s h keys index k) (inside : k < h .rules) {ρ : Rule}
-      (e : ρ ≡ rule-at s (rule-place s k)) {x : ℕ} (own : x ≡ key ρ) where
-    repeated : among keys k x ≡ repeats ρ (first-rules s k)
-    repeated =
-        rw own
-        (among-repeats s keys ρ k (rw e (bounds .short k inside)) (λ j l. bounds .short j (omega arith)) (so-far .keyed))
-
-    pub searched-found : among keys k x ≡ true → distinct (h .names) [] (first-rules s (h .rules)) ≡ refused 7 k
-    searched-found t = searching-found e inside (so-far .searching) (sym repeated ∙ t)
-
-    pub searched-next : among keys k x ≡ false → {keys′ index′ : List ℕ} → keys′ ≡ set keys k x → Entered keys′ index′ (k + 1)
-        → Searched s h keys′ index′ (k + 1)
-    searched-next t stored entered =
+  module _ {lists : ℕ} {keys index : List ℕ} {k : ℕ} (so-far : Met lists s keys index k) (inside : k < h .rules) {x : ℕ}
+      (own : x ≡ key (rule-at s (rule-place s k))) where
+    pub met-next : {keys′ index′ : List ℕ} → keys′ ≡ set keys k x → Entered lists keys′ index′ (k + 1) → Met lists s keys′ index′ (k + 1)
+    met-next stored entered =
         record {
-          searching = searching-next e inside (so-far .searching) (sym repeated ∙ t);
           entered = entered;
-          keyed =
-              rw stored
-              (keyed-more s keys k x (omega (arith, bounds .few, so-far .entered .places)) (own ∙ ap key e) (so-far .keyed));
+          keyed = rw stored (keyed-more s keys k x (omega (arith, bounds .few, so-far .entered .places)) own (so-far .keyed));
         }
+
+    -- rule by rule: the search has come to rule k
+    module _ (searching : Searching s (h .names) (h .rules) k) where
+      pub rule-repeats : among keys k x ≡ true → distinct (h .names) [] (first-rules s (h .rules)) ≡ refused 7 k
+      rule-repeats t = searching-found refl inside searching (sym (repeated-rule keys inside (so-far .keyed) own) ∙ t)
+
+      pub rule-passes : among keys k x ≡ false → Searching s (h .names) (h .rules) (k + 1)
+      rule-passes t = searching-next refl inside searching (sym (repeated-rule keys inside (so-far .keyed) own) ∙ t)
+
+  -- relation by relation: the lowest repeat over all names
+  module _ {keys : List ℕ} (keyed : Keyed s keys (h .rules)) {lowest : ℕ} (search : Lowest keys (h .names) (h .rules) lowest) where
+    of-rule : (k : ℕ) → k < h .rules → repeated keys k ≡ repeats (rule-at s (rule-place s k)) (first-rules s k)
+    of-rule k l = repeated-rule keys l (λ j i. keyed j (omega arith)) (keyed k l)
+
+    named-key : (k : ℕ) → k < h .rules → getD keys k 0 % 64 < h .names
+    named-key k l = rw (keyed k l, key-name (rule-at s (rule-place s k)) (bounds .short k l)) (bounds .named k l)
+
+    searched : (k : ℕ) → k ≤ lowest → Searching s (h .names) (h .rules) k
+    searched zero l = searching-start
+    searched (suc k) l =
+        let p : k < h .rules = omega (arith, search .low) in
+        rw (← add-one k)
+        (searching-next refl p (searched k (omega arith)) (sym (of-rule k p) ∙ search .none k l (named-key k p)))
+
+    pub lowest-repeats : lowest < h .rules → distinct (h .names) [] (first-rules s (h .rules)) ≡ refused 7 lowest
+    lowest-repeats l = searching-found refl l (searched lowest (omega arith)) (sym (of-rule lowest l) ∙ search .found l)
+
+    pub none-repeats : h .rules ≤ lowest → distinct (h .names) [] (first-rules s (h .rules)) ≡ ok (record { names = h .names; rules = first-rules s (h .rules) })
+    none-repeats l = searching-end (let e : lowest ≡ h .rules = omega (arith, search .low) in e) (searched lowest (omega arith))

@@ -1,12 +1,14 @@
--- What causes 1 to 6 settle for keys: a book has at most 256 rules, and each is short. The key of a rule whose left side is read as a part of the book.
-use mathlib.Core.Bool.{true}
+-- What causes 1 to 6 settle for keys: a book has at most 64 names and 256 rules, and each rule is short and over these names.
+use mathlib.Core.Bool.{true, cond}
 use mathlib.Core.List.{List, _∷_}
 use mathlib.Core.Path.{_≡_, refl, sym, ap, _∙_}
-use Prim.Native.Nat.{ℕ, suc, _+_, _-_, _*_, _<_, _≤_}
+use Prim.Native.Nat.{ℕ, suc, _+_, _-_, _*_, _%_, _<_, _≤_}
 use native.Mathlib.Omega.{arith}
-use lib.Dec.{eqb}
+use borrow.Author.Tests.{le-leb}
+use lib.Dec.{leb}
 use lib.ListN.{length, getD, take, drop}
-use Rattle.roles.specs.Role.{Chain, name, polarity, turn}
+use Rattle.roles.specs.Role.{name}
+use Rattle.roles.specs.RoleLaws.{name-below}
 use Rattle.base.specs.Part.{length-part}
 use Rattle.roles.specs.Rule.{Book}
 use Rattle.words.specs.Word.{word}
@@ -17,7 +19,9 @@ use Rattle.book_format.specs.Place.{size-at, rule-at, whole-at, rule-place}
 use Rattle.book_format.specs.FormatLaws.{Whole, whole-facts}
 use Rattle.book_format.specs.DecodeLaws.{Decoded, decoded}
 use Rattle.book_format.specs.DeclaredLaws.{named-link}
-use Rattle.rule_keys.specs.Key.{code, canonical, key, Small, Short}
+use Rattle.book_format.specs.ReadLaws.{named-name}
+use Rattle.rule_keys.specs.Key.{key, Short}
+use Rattle.rule_keys.specs.KeyLaws.{key-name}
 use Rattle.book_cursor.specs.declared.Entry.{Entry}
 use Rattle.book_cursor.specs.Cursor.{entry-rule}
 use Rattle.book_cursor.specs.CursorLaws.{entry-part}
@@ -44,6 +48,8 @@ short-at s n at few whole names =
 -- a book that passes causes 1 to 6, by its header
 pub record Bounded (s : List ℕ) (h : Header) : Type 0 where
   pub few : h .rules ≤ 256
+  pub few-names : h .names ≤ 64
+  pub named : (k : ℕ) → k < h .rules → name (rule-at s (rule-place s k) .right) < h .names
   pub short : (k : ℕ) → k < h .rules → Short (rule-at s (rule-place s k))
 
 pub bounded : {s : List ℕ} {h : Header} → map-result header-of (decode s) ≡ ok h → Bounded s h
@@ -57,18 +63,24 @@ bounded {s} {h} e = by-result (decode s) refl e
         let c : h .rules ≡ word s 6 = ap (λ (x : Header). x .rules) (sym p) ∙ d .count in
         record {
           few = rw c (d .count-most);
+          few-names = rw (← p) (d .names-most);
+          named = λ k l. let i : k < word s 6 = rw (← c) l in rw (← p) (named-name (b .names) _ _ (d .named k i));
           short = λ k l. let i : k < word s 6 = rw (← c) l in short-at s (b .names) (rule-place s k) (d .names-most) (d .whole k i) (d .named k i);
         }
 
--- the rule of an entry, its left side read as a part of the book
-module _ (s : List ℕ) (e : Entry) where
-  pub part-small : Short (entry-rule s e) → Small (take (e .start + e .size - e .start) (drop (e .start) s))
-  part-small h = rw (entry-part s e) (h .left)
+-- the key of a rule whose left side is read as a part of the book
+pub entry-keyed : (s : List ℕ) (e : Entry) → Short (entry-rule s e)
+    → cond (leb (length (take (e .start + e .size - e .start) (drop (e .start) s))) 8)
+    (key (record { left = take (e .start + e .size - e .start) (drop (e .start) s); right = e .right })) 0 ≡ key (entry-rule s e)
+unfolding entry-rule
+entry-keyed s e h = rw (entry-part s e, le-leb (length (entry-rule s e .left)) 8 (h .few)) refl
 
-  pub part-few : Short (entry-rule s e) → length (take (e .start + e .size - e .start) (drop (e .start) s)) ≤ 8
-  part-few h = rw (entry-part s e) (h .few)
+-- the name on its right: the key's remainder, below 64
+module _ (s : List ℕ) (e : Entry) (short : Short (entry-rule s e)) where
+  pub entry-target : name (e .right) ≡ key (entry-rule s e) % 64
+  unfolding entry-rule
+  entry-target = sym (key-name (entry-rule s e) short)
 
-  pub part-key : 64 * code (turn (eqb (polarity (e .right)) 1) (take (e .start + e .size - e .start) (drop (e .start) s))) + name (e .right)
-      ≡ key (entry-rule s e)
-  unfolding entry-rule key canonical
-  part-key = ap (λ (w : Chain). 64 * code (turn (eqb (polarity (e .right)) 1) w) + name (e .right)) (entry-part s e)
+  pub entry-name : name (e .right) < 64
+  unfolding entry-rule
+  entry-name = name-below (e .right) 64 (short .right)

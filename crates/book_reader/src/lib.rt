@@ -1,22 +1,18 @@
-// Reads a book of rules: which book a byte string is, or the first cause of document 01, 1 to 7, that refuses it, and the left
-// sides of its rules as parts of the bytes.
-ghost use mathlib.Core.Bool.{true};
+// Reads a book of rules: which book a byte string is, or the first cause of document 01, 1 to 7, that refuses it.
 ghost use mathlib.Core.Path.{_≡_};
 ghost use Rattle.base.specs.Result.{map-result};
-ghost use Rattle.book_format.specs.Format.{decode as decode-of, read as read-of};
-ghost use Rattle.book_format.specs.Place.{rule-place, has-rule, left-part};
-ghost use Rattle.book_format.specs.Place.{left-side as left-side-of};
+ghost use Rattle.book_format.specs.Format.{read as read-of};
 ghost use Rattle.book_decoder.specs.Verdict.{header-of, says};
 
-mod repeats;
+mod by_rule;
+mod by_target;
+mod key_lists;
+mod relation;
 
-use book_cursor::Cursor;
-use book_cursor::Step;
 use book_decoder::Verdict;
 use book_decoder::decode;
-use repeats::distinct;
 
-// Reads the whole book: causes 1 to 7.
+// Reads the whole book: causes 1 to 7. Repeats are looked for relation by relation.
 pub fn read(book: &[u8]) -> Verdict
     ensures { λ r. ⌜ says r ≡ map-result header-of (read-of (now (book .entry))) ⌝ }
 {
@@ -24,42 +20,16 @@ pub fn read(book: &[u8]) -> Verdict
     let Verdict::WellFormed(header) = reading else {
         return reading;
     };
-    distinct(book, header)
+    by_target::distinct(book, header)
 }
 
-// The left side of a rule, as that part of the book; the empty part where the book is refused by causes 1 to 6 or has no such rule.
-pub fn left_side(book: &[u8], rule: usize) -> &[u8]
-    ensures part { λ r. ⌜ now r ≡ left-part (now (book .entry)) rule ⌝ }
-    ensures left { λ r. ⌜ now r ≡ left-side-of (decode-of (now (book .entry))) rule ⌝ }
+// The same, where repeats are looked for rule by rule: the search that benchmarks hold beside the other.
+pub fn read_by_rule(book: &[u8]) -> Verdict
+    ensures { λ r. ⌜ says r ≡ map-result header-of (read-of (now (book .entry))) ⌝ }
 {
-    let Verdict::WellFormed(header) = decode(book) else {
-        return &book[0..0];
+    let reading = decode(book);
+    let Verdict::WellFormed(header) = reading else {
+        return reading;
     };
-    let rules = header.rules;
-    if rules <= rule {
-        return &book[0..0];
-    }
-    let Step::Rule(entry, _) = seek(book, rule).step(book) else {
-        return &book[0..0];
-    };
-    let start = entry.start;
-    let end = start + entry.size;
-    &book[start..end]
-}
-
-// The cursor at rule `rule`.
-fn seek(book: &[u8], rule: usize) -> Cursor
-    requires { ⌜ has-rule (decode-of (now book)) rule ≡ true ⌝ }
-    ensures { λ r. ⌜ r .at ≡ rule-place (now (book .entry)) rule ⌝ }
-{
-    let mut cursor = Cursor::first();
-    let mut passed = 0;
-    while passed < rule {
-        let Step::Rule(_, next) = cursor.step(book) else {
-            return cursor;
-        };
-        cursor = next;
-        passed += 1;
-    }
-    cursor
+    by_rule::distinct(book, header)
 }

@@ -6,7 +6,7 @@ use mathlib.Core.Path.{_≡_, refl, sym, ap, _∙_, subst}
 use Prim.Native.Nat.{ℕ, suc, _*_, _<_, _≤_}
 use native.Mathlib.Omega.{arith}
 use Rattle.roles.specs.Role.{name, inv}
-use Rattle.roles.specs.RoleLaws.{inv-inv, name-inv, same-name}
+use Rattle.roles.specs.RoleLaws.{inv-inv, name-below, name-inv, same-name}
 use Rattle.roles.specs.Rule.{Rule}
 use Rattle.roles.specs.Named.{Named}
 use Rattle.order.specs.Shape.{shape, inner-of}
@@ -33,10 +33,6 @@ module _ (n : ℕ) (ρs : List Rule) (named : Named n ρs) {lower : ℕ → ℕ 
   unfolding name
   of-name r h = omega arith
 
-  named-role : (r : ℕ) → r < 2 * n → name r < n
-  unfolding name
-  named-role r h = omega arith
-
   -- a rule of r's name puts its inner roles, or their inverses, below r
   below-role : (r s : ℕ) → List·Memᴰ s (inner-roles ρs (name r)) → (t : ℕ) × (name t ≡ name s) × Least ρs t r
   below-role r s m = by-polarity (same-name (ρ .right) r (rule .2))
@@ -61,7 +57,7 @@ module _ (n : ℕ) (ρs : List Rule) (named : Named n ρs) {lower : ℕ → ℕ 
   roles-longest =
       record {
         rises = λ s r l. levels-longest n ρs named c .rises (name s) (name r) (least-forced s r l);
-        reached = λ r p. by-step r (level-step n ρs named c (name r) (named-role r p));
+        reached = λ r p. by-step r (level-step n ρs named c (name r) (name-below r n p));
       }
     where
       by-step : (r : ℕ) → (level n ρs (name r) ≡ 1) ⊎ ((s : ℕ) × List·Memᴰ s (inner-roles ρs (name r)) × (level n ρs (name r) ≡ suc (level n ρs (name s))))

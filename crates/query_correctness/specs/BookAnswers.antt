@@ -11,6 +11,7 @@ use native.Mathlib.Omega.{arith}
 use borrow.Author.Tests.{le-leb, eq-eqb, ne-eqb}
 use lib.ListN.{length}
 use Rattle.roles.specs.Role.{Chain, name, polarity, inv, inv-chain}
+use Rattle.roles.specs.RoleLaws.{name-below}
 use Rattle.roles.specs.Rule.{Book}
 use Rattle.roles.specs.Named.{Named}
 use Rattle.roles.specs.Derivation.{Derives}
@@ -77,10 +78,6 @@ role-plain r h = omega (arith, h)
 role-inverse : (r : ℕ) → polarity r ≡ 1 → inv (2 * name r) ≡ r
 unfolding polarity name inv
 role-inverse r h = omega (arith, h)
-
-name-below : (r n : ℕ) → r < 2 * n → name r < n
-unfolding name
-name-below r n h = omega arith
 
 asked-plain : (r : ℕ) (w : Chain) → (polarity r ≡ 1 → ⊥) → asked r w ≡ w
 unfolding asked

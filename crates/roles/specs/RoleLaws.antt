@@ -30,7 +30,11 @@ same-name s r h = by-test (eq-or-ne s r)
     by-test (inl e) = inl e
     by-test (inr e) = inr (omega arith)
 
--- a role below an even bound has its inverse below it
+-- a role below an even bound has its name below half of it, and its inverse below it
+pub name-below : (r n : ℕ) → r < 2 * n → name r < n
+unfolding name
+name-below r n h = omega arith
+
 pub inv-below : (r n : ℕ) → r < 2 * n → inv r < 2 * n
 unfolding inv
 inv-below r n h = omega arith

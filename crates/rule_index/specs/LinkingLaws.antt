@@ -10,10 +10,11 @@ use mir.Val.{boolByte}
 use lib.Seq.{getD-set-same, getD-set-other}
 use Rattle.base.specs.Truth.{eq-or-ne}
 use Rattle.roles.specs.Role.{Chain, name}
+use Rattle.roles.specs.RoleLaws.{name-below}
 use Rattle.roles.specs.Rule.{Rule}
 use Rattle.order.specs.Shape.{shape}
 use Rattle.tables.specs.Tables.{rules-of, own-shapes}
-use Rattle.rule_index.specs.RuleLinks.{name-below, rule, Link, link-none, link-here, link-other, link-skip, own-at}
+use Rattle.rule_index.specs.RuleLinks.{rule, Link, link-none, link-here, link-other, link-skip, own-at}
 use Rattle.rule_index.specs.RuleKinds.{has, is-kind, has-facing, has-none}
 use Rattle.rule_index.specs.RuleIndex.{right-in, kind-in, next-in, first-in, flag-in, shape-by, Recorded}
 use Rattle.rule_index.specs.Filling.{Linkable, Linking}
@@ -52,7 +53,7 @@ module _ {ρs : List Rule} {n : ℕ} {before : List ℕ} (l : Linkable ρs n bef
         level = λ x p. refl;
         first = λ x p. rw (l .count, l .none x p) (link-none ρs x few);
         next = λ j p q. absurd (let z : ⊥ = omega (arith, l .count) in z);
-        kinds = λ κ r p q. rw (l .clear κ (name r) p (name-below r q), no-kind κ r) refl;
+        kinds = λ κ r p q. rw (l .clear κ (name r) p (name-below r 64 q), no-kind κ r) refl;
       }
 
   module _ {ix : List ℕ} {after : ℕ} (some : 0 < after) (top : after ≤ n) (t : Linking ρs after before ix) where
@@ -139,9 +140,9 @@ module _ {ρs : List Rule} {n : ℕ} {before : List ℕ} (l : Linkable ρs n bef
             (getD-set-same two (3712 + (64 * kind-in ix (after - 1) + x)) 1 0 (omega (arith, size, kind-small, name-small)))
         kind-of (inl g) (inr i) =
             rw (there (sym e ∙ sym g) false (ap (is-kind κ) (sym (entry .shaped)) ∙ kind-other _ _ _ _ κ small (λ c. i (c ∙ sym kind))))
-            (other-flag κ (name r) (name-below r p) (λ c. i (c .0)) ∙ was)
+            (other-flag κ (name r) (name-below r 64 p) (λ c. i (c .0)) ∙ was)
         kind-of (inr g) i =
-            rw (link-skip ρs few (after - 1) h r (λ c. g (sym c ∙ sym e))) (other-flag κ (name r) (name-below r p) (λ c. g (c .1)) ∙ was)
+            rw (link-skip ρs few (after - 1) h r (λ c. g (sym c ∙ sym e))) (other-flag κ (name r) (name-below r 64 p) (λ c. g (c .1)) ∙ was)
 
       pub linking-more : Linking ρs (after - 1) before new
       linking-more =

@@ -8,13 +8,13 @@ use lib.Dec.{eqb}
 use lib.ListN.{length, drop, drop-of-length-le}
 use mir.Val.{boolByte}
 use Rattle.roles.specs.Role.{name, inv}
-use Rattle.roles.specs.RoleLaws.{name-inv}
+use Rattle.roles.specs.RoleLaws.{name-below, name-inv}
 use Rattle.roles.specs.Rule.{Rule}
 use Rattle.order.specs.Shape.{Shape, shape}
 use Rattle.table_languages.specs.LeftSides.{fits-apart}
 use Rattle.tables.specs.Tables.{rules-of, own-shapes, has-symmetric}
 use Rattle.table_laying.specs.Own.{facing, Apart-rules}
-use Rattle.rule_index.specs.RuleLinks.{name-below, rule, rule-member, Link, own-at}
+use Rattle.rule_index.specs.RuleLinks.{rule, rule-member, Link, own-at}
 use Rattle.rule_index.specs.RuleKinds.{has}
 use Rattle.rule_index.specs.RuleIndex.{Indexed, next-in, first-in, level-in, flag-in}
 
@@ -38,7 +38,7 @@ module _ {ρs : List Rule} {ix : List ℕ} (i : Indexed ρs ix) where
   -- where a role's rules begin, and past the last
   module _ (r : ℕ) (h : r < 128) where
     start : Link ρs (name r) 0 (first-in ix (name r))
-    start = i .first (name r) (name-below r h)
+    start = i .first (name r) (name-below r 64 h)
 
     pub at-start : At ρs (name r) (first-in ix (name r))
     at-start = at-link start

@@ -14,10 +14,6 @@ use Rattle.order.specs.ShapeForms.{AllApart}
 use Rattle.tables.specs.Tables.{own-shapes}
 use Rattle.table_laying.specs.Own.{facing, own-other, own-same}
 
-pub name-below : (r : ℕ) → r < 128 → name r < 64
-unfolding name
-name-below r h = omega arith
-
 -- a rule to look up past the last one
 abbrev pub no-rule : Rule
 no-rule = record { left = []; right = 0 }

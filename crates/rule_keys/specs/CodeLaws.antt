@@ -1,4 +1,4 @@
--- Laws of the codes of chains: a code is below a bound by the chain's length, it tells the chain, and a loop adds one role at a time.
+-- Laws of the codes of chains: a code is below a bound by the chain's length, it tells the chain of roles, and a loop adds one role at a time.
 use mathlib.Core.Bool.{Bool, true}
 use mathlib.Core.List.{[], _∷_}
 use mathlib.Core.Path.{_≡_, refl, ap, ap₂, _∙_}
@@ -12,24 +12,29 @@ use Rattle.roles.specs.Role.{Chain, inv, inv-chain, turn}
 use Rattle.roles.specs.RoleLaws.{length-inv-chain, length-turn, turn-below, inv-chain-append, inv-chain-one}
 use Rattle.rule_keys.specs.Key.{code, Small}
 
--- the code of a chain is at least 1, below twice 128 to the chain's length, and no other chain's
+-- each link of the chain is a byte
+abbrev pub Bytes : Chain → Type 0
+Bytes w = (k : ℕ) → k < length w → getD w k 0 < 256
+
+-- the code of a chain is at least 1, and below four times 128 to the chain's length
 code-some : (w : Chain) → 1 ≤ code w
 unfolding code
 code-some [] = omega arith
 code-some (r ∷ w) = omega (arith, code-some w)
 
-small-rest : (r : ℕ) (w : Chain) → Small (r ∷ w) → Small w
-small-rest r w h k p = h (suc k) (omega arith)
-
-code-below : (w : Chain) → Small w → code w < 2 * 128 ^ length w
+code-below : (w : Chain) → Bytes w → code w + 3 ≤ 4 * 128 ^ length w
 unfolding code
 code-below [] h = omega arith
 code-below (r ∷ w) h =
-    rw (pow-succ' 128 (length w)) (omega (arith, code-below w (small-rest r w h), h 0 (omega arith)))
+    rw (pow-succ' 128 (length w)) (omega (arith, code-below w (λ k p. h (suc k) (omega arith)), h 0 (omega arith)))
 
-code-few : (w : Chain) (n : ℕ) → Small w → length w ≤ n → code w < 2 * 128 ^ n
+code-few : (w : Chain) (n : ℕ) → Bytes w → length w ≤ n → code w + 3 ≤ 4 * 128 ^ n
 code-few w n h few =
     omega (arith, code-below w h, pow-le-pow-right {n = 128} (let p : 0 < 128 = omega arith in p) few)
+
+-- no other chain of roles has its code
+small-rest : (r : ℕ) (w : Chain) → Small (r ∷ w) → Small w
+small-rest r w h k p = h (suc k) (omega arith)
 
 pub code-injective : (w v : Chain) → Small w → Small v → code w ≡ code v → w ≡ v
 unfolding code
@@ -45,16 +50,19 @@ code-injective (r ∷ w) (s ∷ v) g h e =
 pub turn-small : (t : Bool) (w : Chain) → Small w → Small (turn t w)
 turn-small t w h k p = turn-below 64 t w h k (rw (← length-turn t w) p)
 
--- a chain w of at most 8 roles
-module _ (w : Chain) (small : Small w) (few : length w ≤ 8) where
-  pub code-turn : (t : Bool) → code (turn t w) < 2 ^ 57
-  code-turn t = code-few (turn t w) 8 (turn-small t w small) (rw length-turn few)
+turn-bytes : (t : Bool) (w : Chain) → Bytes w → Bytes (turn t w)
+turn-bytes t w h k p = turn-below 128 t w h k (rw (← length-turn t w) p)
+
+-- a chain w of at most 8 bytes
+module _ (w : Chain) (bytes : Bytes w) (few : length w ≤ 8) where
+  pub code-turn : (t : Bool) → code (turn t w) + 3 ≤ 2 ^ 58
+  code-turn t = code-few (turn t w) 8 (turn-bytes t w bytes) (rw length-turn few)
 
   -- coded from the last role to the first: the roles from i on are read
   module _ (i : ℕ) (some : 0 < i) (inside : i ≤ length w) where
-    pub code-rest : code (drop i w) < 2 ^ 50
+    pub code-rest : code (drop i w) + 3 ≤ 2 ^ 51
     code-rest =
-        code-few (drop i w) 7 (λ k p. rw getD-drop (small (i + k) (omega (arith, length-drop i w))))
+        code-few (drop i w) 7 (λ k p. rw getD-drop (bytes (i + k) (omega (arith, length-drop i w))))
         (rw length-drop (omega arith))
 
     pub code-next : code (drop (i - 1) w) ≡ 128 * code (drop i w) + getD w (i - 1) 0
@@ -65,10 +73,10 @@ module _ (w : Chain) (small : Small w) (few : length w ≤ 8) where
 
   -- the inverse coded from the first role to the last: the first i roles are read
   module _ (i : ℕ) (inside : i < length w) where
-    pub inverse-front : code (inv-chain (take i w)) < 2 ^ 50
+    pub inverse-front : code (inv-chain (take i w)) + 3 ≤ 2 ^ 51
     inverse-front =
         code-few (inv-chain (take i w)) 7
-        (turn-small true (take i w) (λ k p. rw (getD-take i w k 0 (omega (arith, length-take i w))) (small k (omega (arith, length-take i w)))))
+        (turn-bytes true (take i w) (λ k p. rw (getD-take i w k 0 (omega (arith, length-take i w))) (bytes k (omega (arith, length-take i w)))))
         (rw (length-inv-chain, length-take) (omega arith))
 
     pub inverse-next : code (inv-chain (take (i + 1) w)) ≡ 128 * code (inv-chain (take i w)) + inv (getD w i 0)

@@ -2,7 +2,7 @@
 use mathlib.Core.Path.{ap, _∙_}
 use native.Mathlib.Omega.{arith}
 use Rattle.rule_index.specs.RuleIndex.{first-in}
-use Rattle.rule_index.specs.RuleLinks.{name-below}
+use Rattle.roles.specs.RoleLaws.{name-below}
 use borrow.Author.Needs.{needs}
 use Rattle.table_builder.proofs.lay.first_of.Statement.{statement}
 use Rattle.table_builder.proofs.lay.first_of.Tie as tie
@@ -14,5 +14,5 @@ first-of-spec =
     (λ c κs. search needs)
     (λ c. search needs)
     (λ c. search needs)
-    (λ c κs. omega (arith, name-below _ (c .before .before .pre .0), c .name .ensures, c .before .before .pre .1))
+    (λ c κs. omega (arith, name-below _ 64 (c .before .before .pre .0), c .name .ensures, c .before .before .pre .1))
     (λ c. c .number .ensures .0 ∙ ap (first-in (c .before .before .before .args .index .now)) (c .before .name .ensures)))

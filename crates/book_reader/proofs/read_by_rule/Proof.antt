@@ -1,0 +1,24 @@
+-- `read_by_rule` meets its contract: `decode` settles causes 1 to 6 and `distinct` cause 7.
+use mathlib.Core.Path.{sym, ap, _∙_}
+use borrow.Author.Needs.{needs}
+use Rattle.book_decoder.specs.Verdict.{says}
+use Rattle.book_decoder.specs.VerdictLaws.{read-refused}
+use Rattle.book_reader.proofs.read_by_rule.Statement.{statement}
+use Rattle.book_reader.proofs.read_by_rule.Tie as tie
+
+returns : tie.Need-returns
+returns c = ap says (c .enum-told .given .1) ∙ read-refused _ (sym (ap says (c .enum-told .given .1)) ∙ c .before .before .decode .ensures)
+
+distinct-requires : tie.Need-distinct-requires
+distinct-requires c κs = sym (sym (ap says (c .before .reading .given .1)) ∙ c .before .before .before .decode .ensures)
+
+pub read-by-rule-spec : {M : Type 1} → statement M
+read-by-rule-spec =
+    tie.close
+    (tie.spec
+    (λ c κs. search needs)
+    (λ c. search needs)
+    (λ c. search needs)
+    returns
+    distinct-requires
+    (λ c. search needs))

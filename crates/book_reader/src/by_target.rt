@@ -1,0 +1,65 @@
+// Cause 7 of document 01, relation by relation: only rules whose right roles share a name are compared. The rules of each name are in a list,
+// since the remainder of a rule's key by 64 is the name of its right role.
+ghost use mathlib.Core.Path.{_≡_};
+ghost use Prim.Native.Nat.{_≤_};
+ghost use Rattle.base.specs.Result.{map-result};
+ghost use Rattle.base.specs.Result.Result.{ok};
+ghost use Rattle.book_format.specs.Format.{decode as decode-of, read as read-of};
+ghost use Rattle.book_decoder.specs.Verdict.{header-of, says};
+ghost use Rattle.book_reader.specs.Entered.{Entered};
+ghost use Rattle.book_reader.specs.Lowest.{Lowest, Sized};
+use crate::key_lists::enter;
+use crate::key_lists::entry_key;
+use crate::relation::narrowed;
+use book_cursor::Cursor;
+use book_cursor::Step;
+use book_decoder::Header;
+use book_decoder::Verdict;
+use refusals::BookRefusal;
+use role_bytes::name;
+
+// For a book that passes 1 to 6.
+pub(crate) fn distinct(book: &[u8], header: Header) -> Verdict
+    requires { ⌜ map-result header-of (decode-of (now book)) ≡ ok header ⌝ }
+    ensures { λ r. ⌜ says r ≡ map-result header-of (read-of (now (book .entry))) ⌝ }
+{
+    let rules = header.rules;
+    let mut keys: [u64; 256] = [0; 256];
+    let mut targets: [u16; 320] = [0; 320];
+    let mut sizes: [u16; 64] = [0; 64];
+    let mut cursor = Cursor::first();
+    let mut rule = 0;
+    while rule < rules {
+        let Step::Rule(entry, next) = cursor.step(book) else {
+            return Verdict::WellFormed(header); // not reached: causes 1 to 6 passed
+        };
+        let own = entry_key(book, entry);
+        let target = name(entry.right) as usize;
+        enter(&mut keys, &mut targets, 64, target, own, rule);
+        sizes[target] += 1;
+        cursor = next;
+        rule += 1;
+    }
+    let lowest = lowest_repeat(&keys, &targets, &sizes, header);
+    if lowest < rules {
+        return Verdict::Refused(BookRefusal::Repeated(lowest));
+    }
+    Verdict::WellFormed(header)
+}
+
+// The lowest rule, over all relations, that repeats one before it; the number of rules where none does.
+fn lowest_repeat(keys: &[u64], targets: &[u16], sizes: &[u16], header: Header) -> usize
+    requires { ⌜ Entered 64 (now keys) (now targets) (header .rules) ⌝ }
+    requires { ⌜ header .names ≤ 64 ⌝ }
+    requires { ⌜ Sized (now sizes) (header .rules) ⌝ }
+    ensures { λ r. ⌜ Lowest (now (keys .entry)) (header .names) (header .rules) r ⌝ }
+{
+    let names = header.names;
+    let mut lowest = header.rules;
+    let mut name = 0;
+    while name < names {
+        lowest = narrowed(keys, targets, name, sizes[name], lowest);
+        name += 1;
+    }
+    lowest
+}
