@@ -1,5 +1,6 @@
-//! Links the proved archive from the folder that RABBITSTEEL_LIB_DIR names, or else from ../target/staticlib, and
-//! where RE2's header is found compiles the bench's way to it.
+//! Links the proved archive from the folder that RABBITSTEEL_LIB_DIR names, or else from ../target/staticlib; into the
+//! bench, where it is there, the archive of the other search for repeats; and where RE2's header is found compiles the
+//! bench's way to it.
 
 use std::env;
 use std::path::{Path, PathBuf};
@@ -7,6 +8,7 @@ use std::process::Command;
 
 const LIB_DIR: &str = "RABBITSTEEL_LIB_DIR";
 const ARCHIVE: &str = "librabbitsteel.a";
+const BY_RULE: &str = "libread_by_rule.a";
 
 fn main() {
     println!("cargo::rerun-if-changed=build.rs");
@@ -32,6 +34,16 @@ fn link_archive() {
     let folder = archive.parent().expect("a file stands in a folder");
     println!("cargo::rustc-link-search=native={}", folder.display());
     println!("cargo::rustc-link-lib=static=rabbitsteel");
+    link_by_rule(&folder.join(BY_RULE));
+}
+
+fn link_by_rule(archive: &Path) {
+    println!("cargo::rustc-check-cfg=cfg(by_rule)");
+    if archive.exists() {
+        println!("cargo::rerun-if-changed={}", archive.display());
+        println!("cargo::rustc-cfg=by_rule");
+        println!("cargo::rustc-link-arg-benches={}", archive.display());
+    }
 }
 
 fn link_re2() {

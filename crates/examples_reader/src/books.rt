@@ -45,6 +45,18 @@ pub(crate) fn front(s: &[u8], n: usize) -> &[u8] {
     &s[0..0]
 }
 
+// Writes a book with `rules` rules of name 63, at most 127, rule i from role i alone, and one more for its inverse, from the role `last`.
+pub(crate) fn pile(s: &mut [u8], rules: u16, last: u8) {
+    let mut i = 0;
+    let mut at = 8;
+    while i < rules {
+        at = put_rule(s, at, 126, &[(i % 256) as u8]);
+        i += 1;
+    }
+    put_rule(s, at, 127, &[last]);
+    put_header(s, 64, rules % 256 + 1);
+}
+
 // Writes a book with `rules` rules of length `size`, at most 9, no two alike: rule i has the right role 2 (i % 64) and the first left role 2 (i / 64).
 pub(crate) fn grid(s: &mut [u8], names: u8, rules: u16, size: usize) {
     let mut i = 0;

@@ -7,10 +7,12 @@ use books::edited;
 use books::front;
 use books::grid;
 use books::hall;
+use books::pile;
 use verdicts::label;
 use verdicts::left;
 use verdicts::line;
 use verdicts::verdict;
+use verdicts::verdicts;
 
 fn main() {
     line(b"The hall book");
@@ -121,21 +123,37 @@ fn roles() {
 fn repeats() {
     // part part to part; part part to part; sits sits to sits.
     let same = b"RLB\x01\x00\x04\x03\x00\x00\x02\x00\x00\x00\x02\x00\x00\x02\x02\x02\x02";
-    verdict(b"rule 1 equals rule 0", same);
+    verdicts(b"rule 1 equals rule 0", same);
     // A B to C; C to D; inv(B) inv(A) to inv(C); C to D.
     let lowest = b"RLB\x01\x00\x04\x04\x00\x04\x02\x00\x02\x06\x01\x04\x05\x02\x03\x01\x06\x01\x04";
-    verdict(b"rule 2 mirrors rule 0, rule 3 equals rule 1", lowest);
+    verdicts(b"rule 2 mirrors rule 0, rule 3 equals rule 1", lowest);
+    // B to D; B to A; B to D; B to A.
+    let names = b"RLB\x01\x00\x04\x04\x00\x06\x01\x02\x00\x01\x02\x06\x01\x02\x00\x01\x02";
+    verdicts(
+        b"rule 2 of name 3 equals rule 0, rule 3 of name 0 equals rule 1",
+        names,
+    );
+    pile_of(b"15 rules of one name, then another", 15, 41);
+    pile_of(b"15 rules of one name, then a mirror", 15, 7);
+    pile_of(b"40 rules of one name, then another", 40, 41);
+    pile_of(b"40 rules of one name, then a mirror", 40, 7);
+}
+
+fn pile_of(text: &[u8], rules: u16, last: u8) {
+    let mut space: [u8; 400] = [0; 400];
+    pile(&mut space, rules, last);
+    verdicts(text, front(&space, 11 + 3 * (rules as usize)));
 }
 
 fn mirrors() {
     // inv(R) to R, then R to inv(R): each the other's inverse.
     let mirror = b"RLB\x01\x00\x01\x02\x00\x00\x01\x01\x01\x01\x00";
-    verdict(b"inv(R) to R, R to inv(R)", mirror);
+    verdicts(b"inv(R) to R, R to inv(R)", mirror);
     left(b"left side of rule", 0, mirror);
     left(b"left side of rule", 1, mirror);
     // A B to C; inv(A) inv(B) to inv(C): the order of the links is not reversed, so it is no mirror.
     let unturned = b"RLB\x01\x00\x04\x02\x00\x04\x02\x00\x02\x05\x02\x01\x03";
-    verdict(b"inverse links in the same order", unturned);
+    verdicts(b"inverse links in the same order", unturned);
 }
 
 // Two causes at once, or a later cause in an earlier rule: the first in document 01's order is the answer.

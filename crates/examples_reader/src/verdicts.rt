@@ -14,7 +14,21 @@ pub(crate) fn label(text: &[u8], n: usize) {
 // What the reader answers for the book, in document 01's numbers.
 pub(crate) fn verdict(text: &[u8], bytes: &[u8]) {
     io::write_all(1, text);
-    match book_reader::read(bytes) {
+    said(book_reader::read(bytes));
+    io::write_all(1, b"\n");
+}
+
+// The same with each search for repeats.
+pub(crate) fn verdicts(text: &[u8], bytes: &[u8]) {
+    io::write_all(1, text);
+    said(book_reader::read(bytes));
+    io::write_all(1, b"; rule by rule");
+    said(book_reader::read_by_rule(bytes));
+    io::write_all(1, b"\n");
+}
+
+fn said(verdict: Verdict) {
+    match verdict {
         Verdict::WellFormed(header) => {
             label(b": well-formed, names ", header.names);
             label(b", rules ", header.rules);
@@ -24,7 +38,6 @@ pub(crate) fn verdict(text: &[u8], bytes: &[u8]) {
             label(b" ", refusals::book_value(refusal));
         }
     }
-    io::write_all(1, b"\n");
 }
 
 // The left side of a rule, as the reader hands it out.

@@ -7,6 +7,7 @@ mod inputs;
 mod measure;
 mod programs;
 mod re2;
+mod repeats;
 mod report;
 
 use inputs::{Question, Tabled};
@@ -32,6 +33,7 @@ fn main() {
     }
     let mut report = Report::default();
     books(&mut report);
+    repeats::rows(&mut report);
     questions(&mut report);
     whole_way(&mut report);
     derivations::rows(&mut report);
@@ -55,7 +57,8 @@ fn books(report: &mut Report) {
         ("256 rules", fullest(random)),
         ("256 rules of 8 roles", longest(random)),
     ];
-    for (name, book) in &books {
+    let [spread, of_one_name, _] = repeats::books();
+    for (name, book) in books.iter().chain([&spread, &of_one_name]) {
         let archive = || archive::read(black_box(book));
         let plain = || plain::read(black_box(book)).into();
         pair(report, "read", name, archive, plain);

@@ -80,7 +80,7 @@ impl Report {
             "<svg xmlns=\"http://www.w3.org/2000/svg\" width=\"{width}\" height=\"{height}\" font-family=\"sans-serif\" font-size=\"11\">\n\
              <rect width=\"100%\" height=\"100%\" fill=\"white\"/>\n\
              <text x=\"12\" y=\"22\" font-size=\"15\">{TITLE}: ratio of times, engine / beside</text>\n\
-             <text x=\"12\" y=\"40\">Green: the engine is faster. Orange: plain Rust is faster. Violet: beside RE2.</text>\n"
+             <text x=\"12\" y=\"40\">Green: the engine is faster. Orange: plain Rust is faster. Violet: beside RE2. Grey: beside the search that goes rule by rule.</text>\n"
         );
         svg += &scale.grid(bottom);
         for (number, row) in self.rows.iter().enumerate() {
@@ -138,6 +138,7 @@ impl Scale {
         let (start, end) = (self.at(log.min(0.0)), self.at(log.max(0.0)));
         let (colour, other) = match *beside {
             "RE2" => ("#8a6db1", " (RE2)"),
+            "rule by rule" => ("#8c8c8c", " (rule by rule)"),
             _ if log <= 0.0 => ("#4c9a6a", ""),
             _ => ("#c9803c", ""),
         };
