@@ -392,6 +392,31 @@ pub fn careless(random: &mut Random) -> (usize, Vec<Axiom>) {
     (names, rules)
 }
 
+/// A well-formed book of up to 256 random rules, some of them equal to an earlier rule or to its inverse.
+pub fn repeating(random: &mut Random) -> (usize, Vec<Axiom>) {
+    let names = random.pick(&[1, 2, 7, 30, 64]);
+    let longest = random.between(2, 8);
+    let repeated = random.pick(&[0, 1, 5]);
+    let any = |random: &mut Random| random.below(2 * names) as u8;
+    let mut rules: Vec<Axiom> = Vec::new();
+    for _ in 0..random.between(0, MOST_RULES) {
+        let rule = if !rules.is_empty() && random.percent(repeated) {
+            let earlier = &rules[random.below(rules.len())];
+            match random.below(2) {
+                0 => earlier.clone(),
+                _ => inverse(earlier),
+            }
+        } else {
+            let left = (0..random.between(1, longest))
+                .map(|_| any(random))
+                .collect();
+            (any(random), left)
+        };
+        rules.push(rule);
+    }
+    (names, rules)
+}
+
 /// A book of 256 rules and 2,048 states: six names, some of the five lower ones transitive or symmetric, and the
 /// highest with all other rules.
 pub fn fullest(random: &mut Random) -> Vec<u8> {

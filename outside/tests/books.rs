@@ -40,6 +40,11 @@ fn without_order() {
 }
 
 #[test]
+fn repeats() {
+    run("repeats", 20_000, books::REPEATS, books::repeats);
+}
+
+#[test]
 fn any_rules() {
     run("any_rules", 10_000, books::ANY_RULES, books::any_rules);
 }

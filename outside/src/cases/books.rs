@@ -1,12 +1,13 @@
 //! Cases with well-formed books: all that can be asked of one book.
 
 use crate::archive::Reply;
-use crate::books::{careless, encode, Axiom, Draft, Style, MOST_RULES};
+use crate::books::{careless, encode, inverse, repeating, Axiom, Draft, Style, MOST_RULES};
 use crate::chains::{self, Replacements};
 use crate::plain::book::Book;
 use crate::plain::derivation_checker::MAX_DERIVED_LINKS;
 use crate::plain::derivation_writer::LENT_BYTES;
 use crate::plain::intervals::Intervals;
+use crate::plain::refusal::{Cause, Refusal};
 use crate::plain::rewriting::Rewriting;
 use crate::random::Random;
 use crate::trial::{hex, Met, Tables, Trial};
@@ -137,6 +138,50 @@ pub fn without_order(trial: &mut Trial, random: &mut Random) {
         draft.break_order(random);
     }
     everything(trial, random, &draft.bytes());
+}
+
+pub const REPEATS: &[Met] = &[
+    Met::Accepted("read"),
+    Met::Refused("read", 7),
+    Met::Counted("repeats of several names"),
+    Met::Counted("repeats among over 16 rules of a name"),
+];
+
+/// A book with rules of few names or of many, and none, one or several of them repeated. Cause 7 names the lowest rule that
+/// equals one before it or the inverse of one.
+pub fn repeats(trial: &mut Trial, random: &mut Random) {
+    let (names, rules) = repeating(random);
+    let repeated: Vec<usize> = (0..rules.len())
+        .filter(|&later| {
+            rules[..later]
+                .iter()
+                .any(|rule| *rule == rules[later] || inverse(rule) == rules[later])
+        })
+        .collect();
+    let name = |rule: usize| rules[rule].0 / 2;
+    if repeated.iter().any(|&rule| name(rule) != name(repeated[0])) {
+        trial.count("repeats of several names", 1);
+    }
+    let crowded = |&rule: &usize| {
+        (0..rules.len())
+            .filter(|&other| name(other) == name(rule))
+            .count()
+            > 16
+    };
+    if repeated.iter().any(crowded) {
+        trial.count("repeats among over 16 rules of a name", 1);
+    }
+    let book = encode(names as u8, &rules);
+    let owed = match repeated.first() {
+        Some(&lowest) => Err(Refusal::at(Cause::RepeatedRule, lowest)),
+        None => Ok((names as u64, rules.len() as u64)),
+    };
+    let given = trial.read(&book);
+    trial.check(
+        given == owed.into(),
+        "the lowest repeat",
+        &[("book", hex(&book))],
+    );
 }
 
 pub const ANY_RULES: &[Met] = &[
