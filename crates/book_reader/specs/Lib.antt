@@ -1,5 +1,6 @@
 pub mod Entered
 pub mod EnteredLaws
+pub mod Judged
 pub mod Lowest
 pub mod LowestLaws
 pub mod RelationLaws

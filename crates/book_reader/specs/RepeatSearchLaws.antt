@@ -7,17 +7,23 @@ use mathlib.Core.Path.{_≡_, refl, sym, ap, _∙_}
 use Prim.Native.Nat.{ℕ, zero, suc, _+_, _%_, _<_, _≤_}
 use native.Mathlib.Numerals.{add-one}
 use native.Mathlib.Omega.{arith}
+use borrow.Author.Tests.{lt-ltb, le-ltb}
 use lib.ListN.{length, getD, set}
 use lib.Seq.{getD-set-same, getD-set-other}
 use Rattle.base.specs.Truth.{lt-or-le}
 use Rattle.roles.specs.Rule.{Rule}
+use Rattle.base.specs.Result.{map-result}
 use Rattle.base.specs.Result.Result.{refused, ok}
-use Rattle.book_format.specs.Format.{repeats, distinct}
+use Rattle.book_format.specs.Format.{repeats, distinct, read}
 use Rattle.book_format.specs.Place.{rule-at, rule-place, first-rules}
+use Rattle.book_format.specs.FormatLaws.{length-first-rules}
 use Rattle.book_format.specs.RepeatLaws.{repeats-next, Searching, searching-start, searching-next, searching-found, searching-end}
 use Rattle.rule_keys.specs.Key.{key, Short}
 use Rattle.rule_keys.specs.KeyLaws.{same-key, key-name}
 use Rattle.book_header.specs.declared.Header.{Header}
+use Rattle.book_decoder.specs.Verdict.{header-of}
+use Rattle.book_decoder.specs.VerdictLaws.{Headed}
+use Rattle.book_reader.specs.Judged.{judged}
 use Rattle.book_reader.specs.Entered.{Entered, among}
 use Rattle.book_reader.specs.Lowest.{repeated, Lowest}
 use Rattle.book_reader.specs.ShortLaws.{Bounded}
@@ -42,12 +48,22 @@ module _ (s keys : List ℕ) where
       rw (repeats-next s ρ n, ← among-repeats ρ n short (λ k l. shorts k (omega arith)) (λ k l. h k (omega arith)), h n (omega arith))
       (ap (λ (t : Bool). among keys n (key ρ) || t) (same-key ρ (rule-at s (rule-place s n)) short (shorts n (omega arith))))
 
+-- what the lowest repeat makes of the book
+module _ {s : List ℕ} {h : Header} (reading : Headed s h) where
+  judged-found : {k : ℕ} → k < h .rules → distinct (h .names) [] (first-rules s (h .rules)) ≡ refused 7 k → judged h k ≡ map-result header-of (read s)
+  judged-found {k} l e = rw (lt-ltb k (h .rules) l) (sym (ap (map-result header-of) (reading .reads ∙ e)))
+
+  pub judged-none : {k : ℕ} → k ≡ h .rules → Searching s (h .names) (h .rules) k → judged h k ≡ map-result header-of (read s)
+  judged-none {k} e searching =
+      rw (le-ltb k (h .rules) (omega arith))
+      (sym (ap (map-result header-of) (reading .reads ∙ searching-end e searching) ∙ rw length-first-rules refl))
+
 -- the rules before rule k have been met, and their keys are in lists
 pub record Met (lists : ℕ) (s keys index : List ℕ) (k : ℕ) : Type 0 where
   pub entered : Entered lists keys index k
   pub keyed : Keyed s keys k
 
-module _ {s : List ℕ} {h : Header} (bounds : Bounded s h) where
+module _ {s : List ℕ} {h : Header} (reading : Headed s h) (bounds : Bounded s h) where
   repeated-rule : (keys : List ℕ) {k : ℕ} → k < h .rules → Keyed s keys k → {x : ℕ} → x ≡ key (rule-at s (rule-place s k))
       → among keys k x ≡ repeats (rule-at s (rule-place s k)) (first-rules s k)
   repeated-rule keys {k} inside keyed e =
@@ -62,13 +78,15 @@ module _ {s : List ℕ} {h : Header} (bounds : Bounded s h) where
           keyed = rw stored (keyed-more s keys k x (omega (arith, bounds .few, so-far .entered .places)) own (so-far .keyed));
         }
 
-    -- rule by rule: the search has come to rule k
-    module _ (searching : Searching s (h .names) (h .rules) k) where
-      pub rule-repeats : among keys k x ≡ true → distinct (h .names) [] (first-rules s (h .rules)) ≡ refused 7 k
-      rule-repeats t = searching-found refl inside searching (sym (repeated-rule keys inside (so-far .keyed) own) ∙ t)
+    -- rule by rule: the search has come to rule k, for any number of names
+    module _ (searching : (n : ℕ) → Searching s n (h .rules) k) where
+      pub rule-repeats : among keys k x ≡ true → judged h k ≡ map-result header-of (read s)
+      rule-repeats t =
+          judged-found reading inside
+          (searching-found refl inside (searching (h .names)) (sym (repeated-rule keys inside (so-far .keyed) own) ∙ t))
 
-      pub rule-passes : among keys k x ≡ false → Searching s (h .names) (h .rules) (k + 1)
-      rule-passes t = searching-next refl inside searching (sym (repeated-rule keys inside (so-far .keyed) own) ∙ t)
+      pub rule-passes : among keys k x ≡ false → (n : ℕ) → Searching s n (h .rules) (k + 1)
+      rule-passes t n = searching-next refl inside (searching n) (sym (repeated-rule keys inside (so-far .keyed) own) ∙ t)
 
   -- relation by relation: the lowest repeat over all names
   module _ {keys : List ℕ} (keyed : Keyed s keys (h .rules)) {lowest : ℕ} (search : Lowest keys (h .names) (h .rules) lowest) where
@@ -85,8 +103,9 @@ module _ {s : List ℕ} {h : Header} (bounds : Bounded s h) where
         rw (← add-one k)
         (searching-next refl p (searched k (omega arith)) (sym (of-rule k p) ∙ search .none k l (named-key k p)))
 
-    pub lowest-repeats : lowest < h .rules → distinct (h .names) [] (first-rules s (h .rules)) ≡ refused 7 lowest
-    lowest-repeats l = searching-found refl l (searched lowest (omega arith)) (sym (of-rule lowest l) ∙ search .found l)
-
-    pub none-repeats : h .rules ≤ lowest → distinct (h .names) [] (first-rules s (h .rules)) ≡ ok (record { names = h .names; rules = first-rules s (h .rules) })
-    none-repeats l = searching-end (let e : lowest ≡ h .rules = omega (arith, search .low) in e) (searched lowest (omega arith))
+    pub lowest-judged : judged h lowest ≡ map-result header-of (read s)
+    lowest-judged = by-place (lt-or-le lowest (h .rules))
+      where
+        by-place : (lowest < h .rules) ⊎ (h .rules ≤ lowest) → judged h lowest ≡ map-result header-of (read s)
+        by-place (inl l) = judged-found reading l (searching-found refl l (searched lowest (omega arith)) (sym (of-rule lowest l) ∙ search .found l))
+        by-place (inr l) = judged-none reading (let e : lowest ≡ h .rules = omega (arith, search .low) in e) (searched lowest (omega arith))

@@ -3,21 +3,20 @@ ghost use mathlib.Core.Path.{_≡_};
 ghost use Rattle.base.specs.Result.{map-result};
 ghost use Rattle.base.specs.Result.Result.{ok};
 ghost use Rattle.book_format.specs.Format.{decode as decode-of, read as read-of};
-ghost use Rattle.book_decoder.specs.Verdict.{header-of, says};
+ghost use Rattle.book_decoder.specs.Verdict.{header-of};
+ghost use Rattle.book_reader.specs.Judged.{judged};
 use crate::key_lists::enter;
 use crate::key_lists::entry_key;
 use crate::key_lists::fresh;
 use book_cursor::Cursor;
 use book_cursor::Step;
 use book_decoder::Header;
-use book_decoder::Verdict;
-use refusals::BookRefusal;
 use refusals::Check;
 
-// For a book that passes 1 to 6.
-pub(crate) fn distinct(book: &[u8], header: Header) -> Verdict
+// The lowest rule that repeats one before it, or the number of rules where none does, for a book that passes causes 1 to 6.
+pub(crate) fn lowest_repeat(book: &[u8], header: Header) -> usize
     requires { ⌜ map-result header-of (decode-of (now book)) ≡ ok header ⌝ }
-    ensures { λ r. ⌜ says r ≡ map-result header-of (read-of (now (book .entry))) ⌝ }
+    ensures { λ r. ⌜ judged header r ≡ map-result header-of (read-of (now (book .entry))) ⌝ }
 {
     let rules = header.rules;
     let mut keys: [u64; 256] = [0; 256];
@@ -26,17 +25,17 @@ pub(crate) fn distinct(book: &[u8], header: Header) -> Verdict
     let mut later = 0;
     while later < rules {
         let Step::Rule(entry, next) = cursor.step(book) else {
-            return Verdict::WellFormed(header); // not reached: causes 1 to 6 passed
+            return rules; // not reached: causes 1 to 6 passed
         };
         let own = entry_key(book, entry);
         let list = (own % 251) as usize;
         let last = index[list] as usize;
         let Check::Passed = fresh(&keys, &index, 251, last, own) else {
-            return Verdict::Refused(BookRefusal::Repeated(later));
+            return later;
         };
         enter(&mut keys, &mut index, 251, list, own, later);
         cursor = next;
         later += 1;
     }
-    Verdict::WellFormed(header)
+    rules
 }

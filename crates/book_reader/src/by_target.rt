@@ -5,7 +5,8 @@ ghost use Prim.Native.Nat.{_≤_};
 ghost use Rattle.base.specs.Result.{map-result};
 ghost use Rattle.base.specs.Result.Result.{ok};
 ghost use Rattle.book_format.specs.Format.{decode as decode-of, read as read-of};
-ghost use Rattle.book_decoder.specs.Verdict.{header-of, says};
+ghost use Rattle.book_decoder.specs.Verdict.{header-of};
+ghost use Rattle.book_reader.specs.Judged.{judged};
 ghost use Rattle.book_reader.specs.Entered.{Entered};
 ghost use Rattle.book_reader.specs.Lowest.{Lowest, Sized};
 use crate::key_lists::enter;
@@ -14,14 +15,12 @@ use crate::relation::narrowed;
 use book_cursor::Cursor;
 use book_cursor::Step;
 use book_decoder::Header;
-use book_decoder::Verdict;
-use refusals::BookRefusal;
 use role_bytes::name;
 
-// For a book that passes 1 to 6.
-pub(crate) fn distinct(book: &[u8], header: Header) -> Verdict
+// The lowest rule that repeats one before it, or the number of rules where none does, for a book that passes causes 1 to 6.
+pub(crate) fn lowest_repeat(book: &[u8], header: Header) -> usize
     requires { ⌜ map-result header-of (decode-of (now book)) ≡ ok header ⌝ }
-    ensures { λ r. ⌜ says r ≡ map-result header-of (read-of (now (book .entry))) ⌝ }
+    ensures { λ r. ⌜ judged header r ≡ map-result header-of (read-of (now (book .entry))) ⌝ }
 {
     let rules = header.rules;
     let mut keys: [u64; 256] = [0; 256];
@@ -31,7 +30,7 @@ pub(crate) fn distinct(book: &[u8], header: Header) -> Verdict
     let mut rule = 0;
     while rule < rules {
         let Step::Rule(entry, next) = cursor.step(book) else {
-            return Verdict::WellFormed(header); // not reached: causes 1 to 6 passed
+            return rules; // not reached: causes 1 to 6 passed
         };
         let own = entry_key(book, entry);
         let target = name(entry.right) as usize;
@@ -40,15 +39,11 @@ pub(crate) fn distinct(book: &[u8], header: Header) -> Verdict
         cursor = next;
         rule += 1;
     }
-    let lowest = lowest_repeat(&keys, &targets, &sizes, header);
-    if lowest < rules {
-        return Verdict::Refused(BookRefusal::Repeated(lowest));
-    }
-    Verdict::WellFormed(header)
+    over_names(&keys, &targets, &sizes, header)
 }
 
-// The lowest rule, over all relations, that repeats one before it; the number of rules where none does.
-fn lowest_repeat(keys: &[u64], targets: &[u16], sizes: &[u16], header: Header) -> usize
+// The same, from the keys in lists by name: the least over all relations.
+fn over_names(keys: &[u64], targets: &[u16], sizes: &[u16], header: Header) -> usize
     requires { ⌜ Entered 64 (now keys) (now targets) (header .rules) ⌝ }
     requires { ⌜ header .names ≤ 64 ⌝ }
     requires { ⌜ Sized (now sizes) (header .rules) ⌝ }

@@ -3,14 +3,17 @@ ghost use mathlib.Core.Path.{_≡_};
 ghost use Rattle.base.specs.Result.{map-result};
 ghost use Rattle.book_format.specs.Format.{read as read-of};
 ghost use Rattle.book_decoder.specs.Verdict.{header-of, says};
+ghost use Rattle.book_reader.specs.Judged.{judged};
 
 mod by_rule;
 mod by_target;
 mod key_lists;
 mod relation;
 
+use book_decoder::Header;
 use book_decoder::Verdict;
 use book_decoder::decode;
+use refusals::BookRefusal;
 
 // Reads the whole book: causes 1 to 7. Repeats are looked for relation by relation.
 pub fn read(book: &[u8]) -> Verdict
@@ -20,7 +23,7 @@ pub fn read(book: &[u8]) -> Verdict
     let Verdict::WellFormed(header) = reading else {
         return reading;
     };
-    by_target::distinct(book, header)
+    verdict(header, by_target::lowest_repeat(book, header))
 }
 
 // The same, where repeats are looked for rule by rule: the search that benchmarks hold beside the other.
@@ -31,5 +34,15 @@ pub fn read_by_rule(book: &[u8]) -> Verdict
     let Verdict::WellFormed(header) = reading else {
         return reading;
     };
-    by_rule::distinct(book, header)
+    verdict(header, by_rule::lowest_repeat(book, header))
+}
+
+// Cause 7, by the lowest rule that repeats one before it; the number of rules where none does.
+fn verdict(header: Header, lowest: usize) -> Verdict
+    ensures { λ r. ⌜ says r ≡ judged header lowest ⌝ }
+{
+    if lowest < header.rules {
+        return Verdict::Refused(BookRefusal::Repeated(lowest));
+    }
+    Verdict::WellFormed(header)
 }

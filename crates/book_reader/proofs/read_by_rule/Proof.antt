@@ -1,4 +1,4 @@
--- `read_by_rule` meets its contract: `decode` settles causes 1 to 6 and `distinct` cause 7.
+-- `read_by_rule` meets its contract: `decode` settles causes 1 to 6, and the lowest repeat cause 7.
 use mathlib.Core.Path.{sym, ap, _∙_}
 use borrow.Author.Needs.{needs}
 use Rattle.book_decoder.specs.Verdict.{says}
@@ -9,8 +9,8 @@ use Rattle.book_reader.proofs.read_by_rule.Tie as tie
 returns : tie.Need-returns
 returns c = ap says (c .enum-told .given .1) ∙ read-refused _ (sym (ap says (c .enum-told .given .1)) ∙ c .before .before .decode .ensures)
 
-distinct-requires : tie.Need-distinct-requires
-distinct-requires c κs = sym (sym (ap says (c .before .reading .given .1)) ∙ c .before .before .before .decode .ensures)
+lowest-repeat-requires : tie.Need-lowest-repeat-requires
+lowest-repeat-requires c κs = sym (sym (ap says (c .before .reading .given .1)) ∙ c .before .before .before .decode .ensures)
 
 pub read-by-rule-spec : {M : Type 1} → statement M
 read-by-rule-spec =
@@ -20,5 +20,6 @@ read-by-rule-spec =
     (λ c. search needs)
     (λ c. search needs)
     returns
-    distinct-requires
-    (λ c. search needs))
+    lowest-repeat-requires
+    (λ c κs. search needs)
+    (λ c. c .verdict .ensures ∙ c .before .lowest-repeat .ensures))

@@ -1,31 +1,28 @@
--- `distinct` meets its contract. The invariant: the cursor is at rule `later`, the search has come to it, and the rules before it are met.
-use mathlib.Core.Path.{_≡_, refl, sym, ap, _∙_}
-use Prim.Native.Nat.{_-_, _%_, _≤_}
+-- `lowest_repeat` meets its contract. The invariant: the cursor is at rule `later`, the search has come to it, and the rules before it are met.
+use mathlib.Core.Path.{_≡_, refl, ap, _∙_}
+use Prim.Native.Nat.{ℕ, _-_, _%_, _≤_}
 use native.Mathlib.Omega.{arith}
 use borrow.Author.Needs.{needs}
 use borrow.Author.Tests.{not-true, not-false}
 use Rattle.rule_keys.specs.Key.{key, Short}
 use Rattle.book_cursor.specs.Cursor.{entry-rule}
 use Rattle.book_cursor.specs.CursorLaws.{Hands, Yields, yields}
-use Rattle.book_decoder.specs.Verdict.{header-of}
 use Rattle.refusals.specs.Check.{check-passed, check-failed}
 use Rattle.book_decoder.specs.VerdictLaws.{headed}
-use Rattle.book_format.specs.FormatLaws.{length-first-rules}
 use Rattle.book_format.specs.Place.{rule-place, rule-at}
-use Rattle.book_format.specs.RepeatLaws.{Searching, searching-start, searching-end}
-use Rattle.base.specs.Result.{map-result}
+use Rattle.book_format.specs.RepeatLaws.{Searching, searching-start}
 use Rattle.book_reader.specs.EnteredLaws.{entered-none, last-listed, last-among}
 use Rattle.book_reader.specs.ShortLaws.{bounded}
-use Rattle.book_reader.specs.RepeatSearchLaws.{Met, met-next, rule-repeats, rule-passes}
-use Rattle.book_reader.proofs.by_rule.distinct.Statement.{statement}
-use Rattle.book_reader.proofs.by_rule.distinct.Tie as tie
+use Rattle.book_reader.specs.RepeatSearchLaws.{judged-none, Met, met-next, rule-repeats, rule-passes}
+use Rattle.book_reader.proofs.by_rule.lowest_repeat.Statement.{statement}
+use Rattle.book_reader.proofs.by_rule.lowest_repeat.Tie as tie
 
 abbrev Inv-loop : tie.InvT-loop
-Inv-loop book header rules keys₀ index₀ cursor₀ later₀ keys index cursor later =
-    (later ≤ rules) × ((cursor .at ≡ rule-place book later) × (Searching book (header .names) (header .rules) later × Met 251 book keys index later))
+Inv-loop book rules keys₀ index₀ cursor₀ later₀ keys index cursor later =
+    (later ≤ rules) × ((cursor .at ≡ rule-place book later) × (((n : ℕ) → Searching book n rules later) × Met 251 book keys index later))
 
 abbrev μ-loop : tie.MeasureT-loop
-μ-loop book header rules keys₀ index₀ cursor₀ later₀ keys index cursor later = rules - later
+μ-loop book rules keys₀ index₀ cursor₀ later₀ keys index cursor later = rules - later
 
 -- the step of a turn yields the present rule
 turn : (c : tie.After-step Inv-loop μ-loop) → Yields (c .before .before .before .before .before .args .book .now) (c .before .before .loop .later) (c .step .result)
@@ -42,7 +39,7 @@ own c = c .entry-key .ensures ∙ ap key (handed (c .before .before) .rule)
 
 loop-holds : tie.Need-loop-holds Inv-loop μ-loop
 unfolding rule-place
-loop-holds c = (omega arith, (c .first .ensures, (searching-start, record { entered = entered-none 251 (omega arith); keyed = λ k l. absurd (omega arith) })))
+loop-holds c = (omega arith, (c .first .ensures, ((λ n. searching-start), record { entered = entered-none 251 (omega arith); keyed = λ k l. absurd (omega arith) })))
 
 returns : tie.Need-returns Inv-loop μ-loop
 returns c = absurd (turn (c .before .before) .some (headed (c .before .before .before .before .before .before .before .pre) .whole _ (c .before .before .before .loop-test .taken)) (c .enum-told .given .1))
@@ -62,11 +59,8 @@ fresh-requires c κs = last-listed (c .before .before .before .before .before .b
 returns-2 : tie.Need-returns-2 Inv-loop μ-loop
 returns-2 c =
     let met = c .before .before .before .before .before .before .before .before .before .before .before .loop .inv .1 .1 .1 in
-    sym
-    (ap (map-result header-of)
-    (headed (c .before .before .before .before .before .before .before .before .before .before .before .before .before .before .pre) .reads
-    ∙ rule-repeats (bounded (c .before .before .before .before .before .before .before .before .before .before .before .before .before .before .pre)) met (c .before .before .before .before .before .before .before .before .before .before .loop-test .taken) (own (c .before .before .before .before .before)) (c .before .before .before .before .before .before .before .before .before .before .before .loop .inv .1 .1 .0)
-    (last-among (met .entered) (c .before .before .before .before .before .entry-key .result) _ refl (omega arith) ∙ not-false _ (check-failed _ _ (c .before .before .fresh .ensures) (c .enum-told3 .given .1)))))
+    rule-repeats (headed (c .before .before .before .before .before .before .before .before .before .before .before .before .before .before .pre)) (bounded (c .before .before .before .before .before .before .before .before .before .before .before .before .before .before .pre)) met (c .before .before .before .before .before .before .before .before .before .before .loop-test .taken) (own (c .before .before .before .before .before)) (c .before .before .before .before .before .before .before .before .before .before .before .loop .inv .1 .1 .0)
+    (last-among (met .entered) (c .before .before .before .before .before .entry-key .result) _ refl (omega arith) ∙ not-false _ (check-failed _ _ (c .before .before .fresh .ensures) (c .enum-told3 .given .1)))
 
 enter-requires : tie.Need-enter-requires Inv-loop μ-loop
 enter-requires c κs = (c .before .before .before .before .before .before .before .before .before .before .before .before .before .loop .inv .1 .1 .1 .entered, (refl, (omega arith, omega (arith, bounded (c .before .before .before .before .before .before .before .before .before .before .before .before .before .before .before .before .pre) .few))))
@@ -82,9 +76,9 @@ loop-again c =
       (
         handed (at-key .before .before) .place,
         (
-          rule-passes (bounded (c .before .before .before .before .before .before .before .before .before .before .before .before .before .before .before .before .before .before .before .pre)) met (c .before .before .before .before .before .before .before .before .before .before .before .before .before .before .before .loop-test .taken) (own at-key) (c .before .before .before .before .before .before .before .before .before .before .before .before .before .before .before .before .loop .inv .1 .1 .0)
+          rule-passes (headed (c .before .before .before .before .before .before .before .before .before .before .before .before .before .before .before .before .before .before .before .pre)) (bounded (c .before .before .before .before .before .before .before .before .before .before .before .before .before .before .before .before .before .before .before .pre)) met (c .before .before .before .before .before .before .before .before .before .before .before .before .before .before .before .loop-test .taken) (own at-key) (c .before .before .before .before .before .before .before .before .before .before .before .before .before .before .before .before .loop .inv .1 .1 .0)
               (last-among (met .entered) (c .before .before .before .before .before .before .before .before .before .before .entry-key .result) _ refl (omega arith) ∙ not-true _ (check-passed _ _ (c .before .before .before .before .before .before .before .fresh .ensures) (c .before .before .before .before .before .enum-told2 .given .1))),
-          met-next (bounded (c .before .before .before .before .before .before .before .before .before .before .before .before .before .before .before .before .before .before .before .pre)) met (c .before .before .before .before .before .before .before .before .before .before .before .before .before .before .before .loop-test .taken) (own at-key) (c .before .before .enter .ensures .0) (c .before .before .enter .ensures .1),
+          met-next (headed (c .before .before .before .before .before .before .before .before .before .before .before .before .before .before .before .before .before .before .before .pre)) (bounded (c .before .before .before .before .before .before .before .before .before .before .before .before .before .before .before .before .before .before .before .pre)) met (c .before .before .before .before .before .before .before .before .before .before .before .before .before .before .before .loop-test .taken) (own at-key) (c .before .before .enter .ensures .0) (c .before .before .enter .ensures .1),
         ),
       ),
     )
@@ -92,10 +86,10 @@ loop-again c =
 returns-3 : tie.Need-returns-3 Inv-loop μ-loop
 returns-3 c =
     let all : c .before .loop .later ≡ c .before .before .before .before .args .header .rules = omega arith in
-    sym (ap (map-result header-of) (headed (c .before .before .before .before .pre) .reads ∙ searching-end all (c .before .loop .inv .1 .1 .0)) ∙ rw length-first-rules refl)
+    judged-none (headed (c .before .before .before .before .pre)) refl (rw all at (c .before .loop .inv .1 .1 .0 (c .before .before .before .before .args .header .names)))
 
-pub distinct-spec : {M : Type 1} → statement M
-distinct-spec =
+pub lowest-repeat-spec : {M : Type 1} → statement M
+lowest-repeat-spec =
     tie.close
     (tie.spec
     Inv-loop
