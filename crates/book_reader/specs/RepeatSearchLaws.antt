@@ -13,7 +13,7 @@ use lib.Seq.{getD-set-same, getD-set-other}
 use Rattle.base.specs.Truth.{lt-or-le}
 use Rattle.roles.specs.Rule.{Rule}
 use Rattle.base.specs.Result.{map-result}
-use Rattle.base.specs.Result.Result.{refused, ok}
+use Rattle.base.specs.Result.Result.{refused}
 use Rattle.book_format.specs.Format.{repeats, distinct, read}
 use Rattle.book_format.specs.Place.{rule-at, rule-place, first-rules}
 use Rattle.book_format.specs.FormatLaws.{length-first-rules}

@@ -1,6 +1,5 @@
 -- `verdict` meets its contract.
 use mathlib.Core.Path.{refl}
-use borrow.Author.Needs.{needs}
 use borrow.Author.Tests.{lt-ltb, le-ltb}
 use Rattle.book_reader.proofs.verdict.Statement.{statement}
 use Rattle.book_reader.proofs.verdict.Tie as tie

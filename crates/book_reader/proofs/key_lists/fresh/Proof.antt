@@ -1,6 +1,6 @@
 -- `fresh` meets its contract. The invariant: of the keys before the entry that it began at, those from the present entry on are others.
 use mathlib.Core.Bool.{Bool, not}
-use mathlib.Core.Path.{sym, ap, _≡_}
+use mathlib.Core.Path.{sym, ap}
 use Prim.Native.Nat.{_+_, _-_}
 use native.Mathlib.Omega.{arith}
 use borrow.Author.Needs.{needs}

@@ -1,5 +1,4 @@
 -- `few` meets its contract. The invariant: of the relation's rules from the entry on, those below `least` repeat none.
-use mathlib.Core.Path.{_≡_, sym}
 use Prim.Native.Nat.{_+_, _-_}
 use native.Mathlib.Omega.{arith}
 use borrow.Author.Needs.{needs}

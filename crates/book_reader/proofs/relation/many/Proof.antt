@@ -1,5 +1,5 @@
 -- `many` meets its contract. The invariant: the keys of the relation's rules from the entry on are met, and of these rules none below `least` repeats another.
-use mathlib.Core.Path.{_≡_, refl, sym, _∙_}
+use mathlib.Core.Path.{refl, _∙_}
 use Prim.Native.Nat.{_+_, _-_, _%_}
 use native.Mathlib.Omega.{arith}
 use borrow.Author.Needs.{needs}

@@ -1,8 +1,6 @@
 -- `repeat_of` meets its contract. The invariant: the keys after the rule's and before the present one are others.
 use Prim.Native.Nat.{_-_}
-use native.Mathlib.Omega.{arith}
 use borrow.Author.Needs.{needs}
-use lib.ListN.{getD}
 use Rattle.book_reader.specs.LowestLaws.{Scanned, scanned-start, scanned-next, scanned-found, scanned-end}
 use Rattle.book_reader.proofs.relation.repeat_of.Statement.{statement}
 use Rattle.book_reader.proofs.relation.repeat_of.Tie as tie
