@@ -1,7 +1,10 @@
 // Reads a book of rules: which book a byte string is, or the first cause of document 01, 1 to 7, that refuses it.
+ghost use mathlib.Core.Bool.{not};
 ghost use mathlib.Core.Path.{_≡_};
+ghost use lib.Dec.{ltb};
 ghost use Rattle.base.specs.Result.{map-result};
 ghost use Rattle.book_format.specs.Format.{read as read-of};
+ghost use Rattle.refusals.specs.Check.{check};
 ghost use Rattle.book_decoder.specs.Verdict.{header-of, says};
 ghost use Rattle.book_reader.specs.Judged.{judged};
 
@@ -14,6 +17,7 @@ use book_decoder::Header;
 use book_decoder::Verdict;
 use book_decoder::decode;
 use refusals::BookRefusal;
+use refusals::Check;
 
 // Reads the whole book: causes 1 to 7. Repeats are looked for relation by relation.
 pub fn read(book: &[u8]) -> Verdict
@@ -41,8 +45,18 @@ pub fn read_by_rule(book: &[u8]) -> Verdict
 fn verdict(header: Header, lowest: usize) -> Verdict
     ensures { λ r. ⌜ says r ≡ judged header lowest ⌝ }
 {
-    if lowest < header.rules {
+    let Check::Passed = no_rule(header, lowest) else {
         return Verdict::Refused(BookRefusal::Repeated(lowest));
-    }
+    };
     Verdict::WellFormed(header)
+}
+
+// Passed where the number is that of no rule.
+fn no_rule(header: Header, number: usize) -> Check
+    ensures { λ r. ⌜ r ≡ check (not (ltb number (header .rules))) ⌝ }
+{
+    if number < header.rules {
+        return Check::Failed;
+    }
+    Check::Passed
 }

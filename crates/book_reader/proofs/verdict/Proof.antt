@@ -1,14 +1,16 @@
--- `verdict` meets its contract.
+-- `verdict` meets its contract: what the check found is what the book is judged by.
 use mathlib.Core.Path.{refl}
-use borrow.Author.Tests.{lt-ltb, le-ltb}
+use borrow.Author.Needs.{needs}
+use borrow.Author.Tests.{not-true, not-false}
+use Rattle.refusals.specs.Check.{check-passed, check-failed}
 use Rattle.book_reader.proofs.verdict.Statement.{statement}
 use Rattle.book_reader.proofs.verdict.Tie as tie
 
 returns : tie.Need-returns
-returns c = rw (lt-ltb _ _ (c .if1 .taken)) refl
+returns c = rw (not-false _ (check-failed _ _ (c .before .before .no-rule .ensures) (c .enum-told2 .given .1))) refl
 
 returns-2 : tie.Need-returns-2
-returns-2 c = rw (le-ltb _ _ (c .if1 .left)) refl
+returns-2 c = rw (not-true _ (check-passed _ _ (c .before .before .no-rule .ensures) (c .enum-told .given .1))) refl
 
 pub verdict-spec : {M : Type 1} → statement M
-verdict-spec = tie.close (tie.spec returns returns-2)
+verdict-spec = tie.close (tie.spec (λ c κs. search needs) (λ c. search needs) (λ c. search needs) returns returns-2)
