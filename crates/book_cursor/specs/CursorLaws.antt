@@ -25,7 +25,7 @@ module _ (s : List ℕ) (at : ℕ) where
   step-whole h = rw (whole-true s at (h .short) (h .some) (h .few) (h .fits)) refl
 
 -- the entry at a place stands for the rule there
-entry-rule-at : (s : List ℕ) (at : ℕ) → entry-rule s (entry-at s at) ≡ rule-at s at
+pub entry-rule-at : (s : List ℕ) (at : ℕ) → entry-rule s (entry-at s at) ≡ rule-at s at
 unfolding entry-rule rule-at
 entry-rule-at s at = refl
 
@@ -35,12 +35,12 @@ unfolding entry-rule
 entry-part s e = ap (λ (k : ℕ). take k (drop (e .start) s)) (add-sub-cancel-left (e .start) (e .size))
 
 -- what a step that gave a rule, or none, says of the place
-record Stepped (s : List ℕ) (at : ℕ) (e : Entry) (next : Cursor) : Type 0 where
+pub record Stepped (s : List ℕ) (at : ℕ) (e : Entry) (next : Cursor) : Type 0 where
   pub whole : whole-at s at ≡ true
   pub entry : e ≡ entry-at s at
   pub place : next .at ≡ next-at s at
 
-step-rule : (s : List ℕ) (at : ℕ) (step : Step) (e : Entry) (next : Cursor) → step ≡ step-at s at → step ≡ Rule-and-next e next → Stepped s at e next
+pub step-rule : (s : List ℕ) (at : ℕ) (step : Step) (e : Entry) (next : Cursor) → step ≡ step-at s at → step ≡ Rule-and-next e next → Stepped s at e next
 step-rule s at step e next h k = by-test (whole-at s at) refl (sym k ∙ h)
   where
     by-test : (t : Bool) → whole-at s at ≡ t → Rule-and-next e next ≡ cond t (Rule-and-next (entry-at s at) (record { at = next-at s at })) Malformed
@@ -48,7 +48,7 @@ step-rule s at step e next h k = by-test (whole-at s at) refl (sym k ∙ h)
     by-test true w q = record { whole = w; entry = cc; place = let p : next ≡ record { at = next-at s at } = cc in ap (λ (c : Cursor). c .at) p }
     by-test false w q = absurd (let z : _≡_ {A = ℕ} 0 1 = cc in let f : ⊥ = omega arith in f)
 
-step-none : (s : List ℕ) (at : ℕ) (step : Step) → step ≡ step-at s at → step ≡ Malformed → whole-at s at ≡ false
+pub step-none : (s : List ℕ) (at : ℕ) (step : Step) → step ≡ step-at s at → step ≡ Malformed → whole-at s at ≡ false
 step-none s at step h k = by-test (whole-at s at) refl (sym k ∙ h)
   where
     by-test : (t : Bool) → whole-at s at ≡ t → Malformed ≡ cond t (Rule-and-next (entry-at s at) (record { at = next-at s at })) Malformed

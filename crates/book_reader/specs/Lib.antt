@@ -1,8 +1,10 @@
 pub mod Entered
 pub mod EnteredLaws
 pub mod Judged
+pub mod KeyedAt
 pub mod Lowest
 pub mod LowestLaws
 pub mod RelationLaws
 pub mod ShortLaws
+pub mod KeyedAtLaws
 pub mod RepeatSearchLaws

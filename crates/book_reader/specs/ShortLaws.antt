@@ -4,7 +4,6 @@ use mathlib.Core.List.{List, _∷_}
 use mathlib.Core.Path.{_≡_, refl, sym, ap, _∙_}
 use Prim.Native.Nat.{ℕ, suc, _+_, _-_, _*_, _%_, _<_, _≤_}
 use native.Mathlib.Omega.{arith}
-use borrow.Author.Tests.{le-leb}
 use lib.Dec.{leb}
 use lib.ListN.{length, getD, take, drop}
 use Rattle.roles.specs.Role.{name}
@@ -67,20 +66,3 @@ bounded {s} {h} e = by-result (decode s) refl e
           named = λ k l. let i : k < word s 6 = rw (← c) l in rw (← p) (named-name (b .names) _ _ (d .named k i));
           short = λ k l. let i : k < word s 6 = rw (← c) l in short-at s (b .names) (rule-place s k) (d .names-most) (d .whole k i) (d .named k i);
         }
-
--- the key of a rule whose left side is read as a part of the book
-pub entry-keyed : (s : List ℕ) (e : Entry) → Short (entry-rule s e)
-    → cond (leb (length (take (e .start + e .size - e .start) (drop (e .start) s))) 8)
-    (key (record { left = take (e .start + e .size - e .start) (drop (e .start) s); right = e .right })) 0 ≡ key (entry-rule s e)
-unfolding entry-rule
-entry-keyed s e h = rw (entry-part s e, le-leb (length (entry-rule s e .left)) 8 (h .few)) refl
-
--- the name on its right: the key's remainder, below 64
-module _ (s : List ℕ) (e : Entry) (short : Short (entry-rule s e)) where
-  pub entry-target : name (e .right) ≡ key (entry-rule s e) % 64
-  unfolding entry-rule
-  entry-target = sym (key-name (entry-rule s e) short)
-
-  pub entry-name : name (e .right) < 64
-  unfolding entry-rule
-  entry-name = name-below (e .right) 64 (short .right)

@@ -6,10 +6,9 @@ ghost use Rattle.book_format.specs.Format.{decode as decode-of, read as read-of
 ghost use Rattle.book_decoder.specs.Verdict.{header-of};
 ghost use Rattle.book_reader.specs.Judged.{judged};
 use crate::key_lists::enter;
-use crate::key_lists::entry_key;
 use crate::key_lists::fresh;
+use crate::keyed_rule::keyed_rule;
 use book_cursor::Cursor;
-use book_cursor::Step;
 use book_decoder::Header;
 use refusals::Check;
 
@@ -24,17 +23,15 @@ pub(crate) fn lowest_repeat(book: &[u8], header: Header) -> usize
     let mut cursor = Cursor::first();
     let mut later = 0;
     while later < rules {
-        let Step::Rule(entry, next) = cursor.step(book) else {
-            return rules; // not reached: causes 1 to 6 passed
-        };
-        let own = entry_key(book, entry);
+        let keyed = keyed_rule(book, cursor);
+        let own = keyed.key;
         let list = (own % 251) as usize;
         let last = index[list] as usize;
         let Check::Passed = fresh(&keys, &index, 251, last, own) else {
             return later;
         };
         enter(&mut keys, &mut index, 251, list, own, later);
-        cursor = next;
+        cursor = keyed.next;
         later += 1;
     }
     rules

@@ -10,10 +10,9 @@ ghost use Rattle.book_reader.specs.Judged.{judged};
 ghost use Rattle.book_reader.specs.Entered.{Entered};
 ghost use Rattle.book_reader.specs.Lowest.{Lowest, Sized};
 use crate::key_lists::enter;
-use crate::key_lists::entry_key;
+use crate::keyed_rule::keyed_rule;
 use crate::relation::narrowed;
 use book_cursor::Cursor;
-use book_cursor::Step;
 use book_decoder::Header;
 use role_bytes::name;
 
@@ -29,14 +28,11 @@ pub(crate) fn lowest_repeat(book: &[u8], header: Header) -> usize
     let mut cursor = Cursor::first();
     let mut rule = 0;
     while rule < rules {
-        let Step::Rule(entry, next) = cursor.step(book) else {
-            return rules; // not reached: causes 1 to 6 passed
-        };
-        let own = entry_key(book, entry);
-        let target = name(entry.right) as usize;
-        enter(&mut keys, &mut targets, 64, target, own, rule);
+        let keyed = keyed_rule(book, cursor);
+        let target = name(keyed.right) as usize;
+        enter(&mut keys, &mut targets, 64, target, keyed.key, rule);
         sizes[target] += 1;
-        cursor = next;
+        cursor = keyed.next;
         rule += 1;
     }
     over_names(&keys, &targets, &sizes, header)

@@ -2,27 +2,11 @@
 // key's place, or 0 for none; at x stands the last key with the remainder x, and behind these, for each key, the last one before it with the same remainder.
 ghost use mathlib.Core.Bool.{not};
 ghost use mathlib.Core.Path.{_≡_};
-ghost use Prim.Native.Nat.{_+_, _%_, _<_, _≤_};
-ghost use lib.ListN.{length, set};
+ghost use Prim.Native.Nat.{_+_, _%_, _<_};
+ghost use lib.ListN.{set};
 ghost use Rattle.refusals.specs.Check.{check};
-ghost use Rattle.rule_keys.specs.Key.{Short};
-ghost use Rattle.rule_keys.specs.Key.{key as key-of};
-ghost use Rattle.book_cursor.specs.Cursor.{entry-rule};
 ghost use Rattle.book_reader.specs.Entered.{Entered, Listed, among};
-use book_cursor::Entry;
 use refusals::Check;
-use rule_keys::key;
-
-// The key of a rule of the book.
-pub(crate) fn entry_key(book: &[u8], rule: Entry) -> u64
-    requires { ⌜ rule .start + rule .size ≤ length (now book) ⌝ }
-    requires { ⌜ Short (entry-rule (now book) rule) ⌝ }
-    ensures { λ r. ⌜ r ≡ key-of (entry-rule (now (book .entry)) rule) ⌝ }
-{
-    let start = rule.start;
-    let end = start + rule.size;
-    key(&book[start..end], rule.right)
-}
 
 // Passed where the key is none of those before the entry `last` of its list.
 pub(crate) fn fresh(keys: &[u64], index: &[u16], lists: usize, last: usize, key: u64) -> Check

@@ -11,6 +11,7 @@ ghost use Rattle.book_reader.specs.Judged.{judged};
 mod by_rule;
 mod by_target;
 mod key_lists;
+mod keyed_rule;
 mod relation;
 
 use book_decoder::Header;
