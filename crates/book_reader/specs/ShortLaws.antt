@@ -1,13 +1,11 @@
 -- What causes 1 to 6 settle for keys: a book has at most 64 names and 256 rules, and each rule is short and over these names.
-use mathlib.Core.Bool.{true, cond}
+use mathlib.Core.Bool.{true}
 use mathlib.Core.List.{List, _∷_}
 use mathlib.Core.Path.{_≡_, refl, sym, ap, _∙_}
-use Prim.Native.Nat.{ℕ, suc, _+_, _-_, _*_, _%_, _<_, _≤_}
+use Prim.Native.Nat.{ℕ, suc, _+_, _*_, _<_, _≤_}
 use native.Mathlib.Omega.{arith}
-use lib.Dec.{leb}
-use lib.ListN.{length, getD, take, drop}
+use lib.ListN.{length, getD}
 use Rattle.roles.specs.Role.{name}
-use Rattle.roles.specs.RoleLaws.{name-below}
 use Rattle.base.specs.Part.{length-part}
 use Rattle.roles.specs.Rule.{Book}
 use Rattle.words.specs.Word.{word}
@@ -19,11 +17,7 @@ use Rattle.book_format.specs.FormatLaws.{Whole, whole-facts}
 use Rattle.book_format.specs.DecodeLaws.{Decoded, decoded}
 use Rattle.book_format.specs.DeclaredLaws.{named-link}
 use Rattle.book_format.specs.ReadLaws.{named-name}
-use Rattle.rule_keys.specs.Key.{key, Short}
-use Rattle.rule_keys.specs.KeyLaws.{key-name}
-use Rattle.book_cursor.specs.declared.Entry.{Entry}
-use Rattle.book_cursor.specs.Cursor.{entry-rule}
-use Rattle.book_cursor.specs.CursorLaws.{entry-part}
+use Rattle.rule_keys.specs.Key.{Short}
 use Rattle.book_header.specs.declared.Header.{Header}
 use Rattle.book_decoder.specs.Verdict.{header-of}
 
