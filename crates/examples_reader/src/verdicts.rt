@@ -45,7 +45,7 @@ pub(crate) fn left(text: &[u8], rule: usize, bytes: &[u8]) {
     io::write_all(1, text);
     label(b" ", rule);
     io::write_all(1, b":");
-    let part = left_sides::left_side(bytes, rule);
+    let part = book_left_sides::left_side(bytes, rule);
     let mut i = 0;
     while i < part.len() {
         label(b" ", part[i] as usize);

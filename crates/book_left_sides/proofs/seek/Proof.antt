@@ -6,8 +6,8 @@ use borrow.Author.Needs.{needs}
 use Rattle.book_cursor.specs.CursorLaws.{Yields, yields}
 use Rattle.book_format.specs.DecodeLaws.{has-rule-whole}
 use Rattle.book_format.specs.Place.{rule-place}
-use Rattle.left_sides.proofs.seek.Statement.{statement}
-use Rattle.left_sides.proofs.seek.Tie as tie
+use Rattle.book_left_sides.proofs.seek.Statement.{statement}
+use Rattle.book_left_sides.proofs.seek.Tie as tie
 
 abbrev Inv-loop : tie.InvT-loop
 Inv-loop book rule cursor₀ passed₀ cursor passed = (passed ≤ rule) × (cursor .at ≡ rule-place book passed)

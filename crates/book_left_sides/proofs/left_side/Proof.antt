@@ -12,8 +12,8 @@ use Rattle.book_format.specs.Format.{decode}
 use Rattle.book_format.specs.Place.{has-rule}
 use Rattle.book_format.specs.DecodeLaws.{left-none, left-some, has-rule-whole}
 use Rattle.roles.specs.Rule.{Rule}
-use Rattle.left_sides.proofs.left_side.Statement.{statement}
-use Rattle.left_sides.proofs.left_side.Tie as tie
+use Rattle.book_left_sides.proofs.left_side.Statement.{statement}
+use Rattle.book_left_sides.proofs.left_side.Tie as tie
 
 -- whether the book has the rule, by the header that it is decoded to
 counted : (c : tie.After-header) → has-rule (decode (c .before .before .before .before .args .book .now)) (c .before .before .before .before .args .rule) ≡ ltb (c .before .before .before .before .args .rule) (c .header .given .0 .0 .rules)
