@@ -9,7 +9,7 @@ use native.Mathlib.Omega.{arith}
 use borrow.Author.Tests.{eq-eqb, ne-eqb}
 use lib.ListN.{getD, set, replicate, length-set, length-replicate, getD-replicate}
 use lib.Seq.{getD-set-same, getD-set-other}
-use Rattle.base.specs.Truth.{or-left, lt-or-le}
+use Rattle.base.specs.Truth.{lt-or-le}
 use Rattle.linked_lists.specs.LinkedLists.{Latest}
 use Rattle.linked_lists.specs.LinkedListsLaws as walk
 use Rattle.book_reader.specs.Entered.{list-of, Entered, InList, Listed, among}
@@ -75,18 +75,6 @@ among-skip keys x count (suc m) h =
     rw (e, among-skip keys x count m (λ k l p. h k l (omega arith)), ne-eqb x (getD keys (count + m) 0) (λ d. h (count + m) (omega arith) (omega arith) (sym d)))
     (or-false (among keys count x))
 
--- one more key, and the keys before it
-pub among-set : (keys : List ℕ) (x y count place : ℕ) → count ≤ place → among (set keys place y) count x ≡ among keys count x
-unfolding among
-among-set keys x y zero place l = refl
-among-set keys x y (suc m) place l = rw (among-set keys x y m place (omega arith), getD-set-other keys place m y 0 (omega arith)) refl
-
-pub among-more : (keys : List ℕ) (x y count : ℕ) → among keys count x ≡ true → among (set keys count y) (count + 1) x ≡ true
-unfolding among
-among-more keys x y count h =
-    let e : count + 1 ≡ suc count = omega arith in
-    rw e (or-left (among (set keys count y) count x) _ (among-set keys x y count count (omega arith) ∙ h))
-
 -- the last entry of x's list before a bound: an entry of it, and no key from there up to the bound is x
 module _ {lists : ℕ} {keys index : List ℕ} {count : ℕ} (entered : Entered lists keys index count) (x : ℕ) {bound entry : ℕ}
     (here : Latest (list-of lists keys) (x % lists) bound entry) where
@@ -146,11 +134,20 @@ module _ {lists : ℕ} {keys index : List ℕ} {x last : ℕ} where
         by-place k i e (inl p) = d (rw (← p) e)
         by-place k i e (inr p) = so-far .passed k p i e
 
-    pub walked-found : 0 < at → getD keys (at - 1) 0 ≡ x → among keys last x ≡ true
-    walked-found some = among-found keys x last (at - 1) (omega (arith, so-far .back))
+    -- the walk ends at an entry of x, or at 0
+    pub walked-found : 0 < at → getD keys (at - 1) 0 ≡ x → Latest (λ k. getD keys k 0) x last at
+    walked-found some e = record { low = so-far .back; own = λ s. e; none-later = so-far .passed }
 
-    pub walked-end : at ≡ 0 → among keys last x ≡ false
-    walked-end e = among-none keys x last (λ k l. so-far .passed k (omega arith) l)
+    pub walked-end : at ≡ 0 → Latest (λ k. getD keys k 0) x last 0
+    walked-end e = record { low = omega arith; own = λ s. absurd (omega arith); none-later = λ k l. so-far .passed k (omega arith) }
+
+-- whether x is one of the first keys, by its last place
+module _ (keys : List ℕ) {x last entry : ℕ} (here : Latest (λ k. getD keys k 0) x last entry) where
+  pub found-among : 0 < entry → among keys last x ≡ true
+  found-among some = among-found keys x last (entry - 1) (omega (arith, here .low)) (here .own some)
+
+  pub none-among : entry ≡ 0 → among keys last x ≡ false
+  none-among e = among-none keys x last (λ k l. here .none-later k (omega arith) l)
 
 -- a key that is looked for among all the first ones, by the last entry of its list, or the key at a place among those before it, by the entry for that place
 module _ {lists : ℕ} {keys index : List ℕ} {count : ℕ} (entered : Entered lists keys index count) where
@@ -163,6 +160,19 @@ module _ {lists : ℕ} {keys index : List ℕ} {count : ℕ} (entered : Entered 
 
     pub last-among : among keys count x ≡ among keys (getD index list 0) x
     last-among = latest-among entered x last-latest
+
+    -- the last place of x before that entry is its last place of all
+    pub last-found : {entry : ℕ} → Latest (λ k. getD keys k 0) x (getD index list 0) entry → Latest (λ k. getD keys k 0) x count entry
+    last-found {entry} found =
+        record {
+          low = omega (arith, found .low, last-latest .low);
+          own = found .own;
+          none-later = λ k l j e. by-place k l j e (lt-or-le k (getD index list 0));
+        }
+      where
+        by-place : (k : ℕ) → entry ≤ k → k < count → getD keys k 0 ≡ x → (k < getD index list 0) ⊎ (getD index list 0 ≤ k) → ⊥
+        by-place k l j e (inl p) = found .none-later k l p e
+        by-place k l j e (inr p) = last-latest .none-later k p j (ap (λ (n : ℕ). n % lists) e)
 
   module _ (k : ℕ) (inside : k < count) where
     pub before-listed : Listed lists keys index (getD index (lists + k) 0) (getD keys k 0)

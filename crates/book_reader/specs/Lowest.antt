@@ -2,7 +2,7 @@
 use mathlib.Core.Bool.{Bool, true, false}
 use mathlib.Core.List.{List}
 use mathlib.Core.Path.{_≡_}
-use Prim.Native.Nat.{ℕ, _%_, _<_, _≤_}
+use Prim.Native.Nat.{ℕ, _-_, _%_, _<_, _≤_}
 use lib.ListN.{length, getD}
 use Rattle.book_reader.specs.Entered.{Entered, among}
 
@@ -28,11 +28,11 @@ pub record Narrowed (keys : List ℕ) (name lowest least : ℕ) : Type 0 where
   pub found : least < lowest → repeated keys least ≡ true
   pub none : (k : ℕ) → k < least → getD keys k 0 % 64 ≡ name → repeated keys k ≡ false
 
--- the least of a number and the places after one that have its key
-pub record NextSame (keys : List ℕ) (rule lowest least : ℕ) : Type 0 where
+-- the least of a number and the one that stands before an entry, if there is one
+pub record Lowered (numbers : List ℕ) (entry lowest least : ℕ) : Type 0 where
   pub low : least ≤ lowest
-  pub found : least < lowest → (rule < least) × (getD keys least 0 ≡ getD keys rule 0)
-  pub none : (k : ℕ) → rule < k → k < least → getD keys k 0 ≡ getD keys rule 0 → ⊥
+  pub own : 0 < entry → least ≤ getD numbers (entry - 1) 0
+  pub found : least < lowest → (0 < entry) × (least ≡ getD numbers (entry - 1) 0)
 
 -- how many rules of a name there are so far: no more than of all
 pub record Sized (sizes : List ℕ) (count : ℕ) : Type 0 where

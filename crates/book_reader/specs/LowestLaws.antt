@@ -1,4 +1,4 @@
--- Laws of the lowest repeat: a search lowers the number that it began with; one name more; the next place with the same key; how many rules a name has.
+-- Laws of the lowest repeat: a search lowers the number that it began with; one name more; how many rules a name has.
 use mathlib.Core.Bool.{true, false}
 use mathlib.Core.List.{List}
 use mathlib.Core.Logic.{_⊎_, inl, inr}
@@ -8,7 +8,7 @@ use native.Mathlib.Omega.{arith}
 use lib.ListN.{getD, set, replicate, length-set, length-replicate, getD-replicate}
 use lib.Seq.{getD-set-same, getD-set-other}
 use Rattle.base.specs.Truth.{lt-or-le, eq-or-ne}
-use Rattle.book_reader.specs.Lowest.{repeated, Lowest, Narrowed, NextSame, Sized}
+use Rattle.book_reader.specs.Lowest.{repeated, Lowest, Narrowed, Sized}
 
 -- a repeat, or the number that a search began with, is lowered to a repeat
 pub found-lower : (keys : List ℕ) {lowest least least′ : ℕ} → (least < lowest → repeated keys least ≡ true) → least′ ≤ least
@@ -18,29 +18,6 @@ found-lower keys {lowest} {least} {least′} before low found l = by-place (lt-o
     by-place : (least′ < least) ⊎ (least ≤ least′) → repeated keys least′ ≡ true
     by-place (inl p) = found p
     by-place (inr p) = let e : least′ ≡ least = omega arith in rw e (before (omega arith))
-
--- a walk over the places after a rule: those passed have other keys
-pub record Scanned (keys : List ℕ) (rule later : ℕ) : Type 0 where
-  pub after : rule < later
-  pub none : (k : ℕ) → rule < k → k < later → getD keys k 0 ≡ getD keys rule 0 → ⊥
-
-module _ {keys : List ℕ} {rule : ℕ} where
-  pub scanned-start : Scanned keys rule (rule + 1)
-  scanned-start = record { after = omega arith; none = λ k l p. absurd (omega arith) }
-
-  module _ {later : ℕ} (so-far : Scanned keys rule later) where
-    pub scanned-next : (getD keys later 0 ≡ getD keys rule 0 → ⊥) → Scanned keys rule (later + 1)
-    scanned-next d = record { after = omega (arith, so-far .after); none = λ k l p e. by-place k l e (lt-or-le k later) p }
-      where
-        by-place : (k : ℕ) → rule < k → getD keys k 0 ≡ getD keys rule 0 → (k < later) ⊎ (later ≤ k) → k < later + 1 → ⊥
-        by-place k l e (inl q) p = so-far .none k l q e
-        by-place k l e (inr q) p = let z : later ≡ k = omega arith in d (rw z e)
-
-    pub scanned-found : {lowest : ℕ} → later < lowest → getD keys later 0 ≡ getD keys rule 0 → NextSame keys rule lowest later
-    scanned-found l e = record { low = omega arith; found = λ p. (so-far .after, e); none = so-far .none }
-
-    pub scanned-end : {lowest : ℕ} → lowest ≤ later → NextSame keys rule lowest lowest
-    scanned-end l = record { low = omega arith; found = λ p. absurd (omega arith); none = λ k p q. so-far .none k p (omega arith) }
 
 -- no name at first, then one more
 module _ {keys : List ℕ} {count : ℕ} where

@@ -3,7 +3,8 @@
 ghost use mathlib.Core.Bool.{not};
 ghost use mathlib.Core.Path.{_≡_};
 ghost use Prim.Native.Nat.{_+_, _%_, _<_};
-ghost use lib.ListN.{set};
+ghost use lib.ListN.{getD, set};
+ghost use Rattle.linked_lists.specs.LinkedLists.{Latest};
 ghost use Rattle.refusals.specs.Check.{check};
 ghost use Rattle.book_reader.specs.Entered.{Entered, Listed, among};
 use refusals::Check;
@@ -13,15 +14,26 @@ pub(crate) fn fresh(keys: &[u64], index: &[u16], lists: usize, last: usize, key:
     requires { ⌜ Listed lists (now keys) (now index) last key ⌝ }
     ensures { λ r. ⌜ r ≡ check (not (among (now (keys .entry)) last key)) ⌝ }
 {
+    if 0 < find(keys, index, lists, last, key) {
+        return Check::Failed;
+    }
+    Check::Passed
+}
+
+// The entry for the last key before `last` that is this one, or 0.
+pub(crate) fn find(keys: &[u64], index: &[u16], lists: usize, last: usize, key: u64) -> usize
+    requires { ⌜ Listed lists (now keys) (now index) last key ⌝ }
+    ensures { λ r. ⌜ Latest (λ k. getD (now (keys .entry)) k 0) key last r ⌝ }
+{
     let mut at = last;
     while 0 < at {
         let k = at - 1;
         if keys[k] == key {
-            return Check::Failed;
+            return at;
         }
         at = index[lists + k] as usize;
     }
-    Check::Passed
+    0
 }
 
 // Enters one more key into its list, after the first `count`.

@@ -1,10 +1,9 @@
 // The repeats among the rules of one relation, which are in a list, the last first.
-ghost use mathlib.Core.Path.{_≡_};
 ghost use Prim.Native.Nat.{_<_, _≤_};
 ghost use lib.ListN.{length};
-ghost use Rattle.refusals.specs.declared.check.Check.the-variants.{Passed};
-ghost use Rattle.book_reader.specs.Lowest.{Gathered, Narrowed, NextSame};
+ghost use Rattle.book_reader.specs.Lowest.{Gathered, Narrowed, Lowered};
 use crate::key_lists::enter;
+use crate::key_lists::find;
 use crate::key_lists::fresh;
 use refusals::Check;
 
@@ -46,13 +45,15 @@ fn few(keys: &[u64], targets: &[u16], name: usize, lowest: usize) -> usize
     least
 }
 
-// For any number of rules, and fast for many: the keys met go into lists by their remainders by 251, and only keys of one list are compared.
+// For any number of rules, and fast for many: the keys met, with the numbers of their rules, go into lists by their remainders by 251, and only keys of
+// one list are compared. The rules met are later ones, so that the one whose key is met again is the repeat.
 fn many(keys: &[u64], targets: &[u16], name: usize, lowest: usize) -> usize
     requires { ⌜ Gathered (now keys) (now targets) lowest ⌝ }
     requires { ⌜ name < 64 ⌝ }
     ensures { λ r. ⌜ Narrowed (now (keys .entry)) name lowest r ⌝ }
 {
     let mut met: [u64; 256] = [0; 256];
+    let mut numbers: [u16; 256] = [0; 256];
     let mut index: [u16; 507] = [0; 507];
     let mut count = 0;
     let mut least = lowest;
@@ -62,32 +63,25 @@ fn many(keys: &[u64], targets: &[u16], name: usize, lowest: usize) -> usize
         let own = keys[rule];
         let list = (own % 251) as usize;
         let last = index[list] as usize;
-        let looked = fresh(&met, &index, 251, last, own);
-        least = repeat_of(keys, rule, least, looked);
+        least = lower(&numbers, find(&met, &index, 251, last, own), least);
         enter(&mut met, &mut index, 251, list, own, count);
+        numbers[count] = rule as u16;
         count += 1;
         at = targets[64 + rule] as usize;
     }
     least
 }
 
-// The lowest rule after `rule` with its key, if that is below `lowest`, else `lowest`. A check that passed says that there is none.
-fn repeat_of(keys: &[u64], rule: usize, lowest: usize, looked: Check) -> usize
-    requires { ⌜ rule < length (now keys) ⌝ }
-    requires { ⌜ lowest ≤ length (now keys) ⌝ }
-    requires { ⌜ (looked ≡ Passed → NextSame (now keys) rule lowest lowest) ⌝ }
-    ensures { λ r. ⌜ NextSame (now (keys .entry)) rule lowest r ⌝ }
+// The least of a number and the one that stands before an entry, if it is not 0.
+fn lower(numbers: &[u16], entry: usize, lowest: usize) -> usize
+    requires { ⌜ entry ≤ length (now numbers) ⌝ }
+    ensures { λ r. ⌜ Lowered (now (numbers .entry)) entry lowest r ⌝ }
 {
-    let Check::Failed = looked else {
-        return lowest;
-    };
-    let own = keys[rule];
-    let mut later = rule + 1;
-    while later < lowest {
-        if keys[later] == own {
-            return later;
+    if 0 < entry {
+        let number = numbers[entry - 1] as usize;
+        if number < lowest {
+            return number;
         }
-        later += 1;
     }
     lowest
 }

@@ -1,65 +1,18 @@
--- `fresh` meets its contract. The invariant: of the keys before the entry that it began at, those from the present entry on are others.
+-- `fresh` meets its contract: a key is one of the first where it has an entry.
 use mathlib.Core.Bool.{Bool, not}
 use mathlib.Core.Path.{sym, ap}
-use Prim.Native.Nat.{_+_, _-_}
 use native.Mathlib.Omega.{arith}
 use borrow.Author.Needs.{needs}
 use Rattle.refusals.specs.Check.{check}
-use Rattle.book_reader.specs.EnteredLaws.{Walked, walked-start, walked-low, walked-less, walked-next, walked-found, walked-end}
+use Rattle.book_reader.specs.EnteredLaws.{found-among, none-among}
 use Rattle.book_reader.proofs.key_lists.fresh.Statement.{statement}
 use Rattle.book_reader.proofs.key_lists.fresh.Tie as tie
 
-abbrev Inv-loop : tie.InvT-loop
-Inv-loop keys index lists last key at₀ at = Walked lists keys index key last at
+returns : tie.Need-returns
+returns c = ap (λ (t : Bool). check (not t)) (sym (found-among _ (c .before .find .ensures) (c .if1 .taken)))
 
-abbrev μ-loop : tie.MeasureT-loop
-μ-loop keys index lists last key at₀ at = at
-
-mul-if1 : tie.Need-mul-if1 Inv-loop μ-loop
-mul-if1 c = omega (arith, walked-low (c .before .loop .inv))
-
-shared-slice-read-if1 : tie.Need-shared-slice-read-if1 Inv-loop μ-loop
-shared-slice-read-if1 c = omega (arith, walked-low (c .before .before .loop .inv), c .before .before .loop .inv .listed .entered .places)
-
-returns : tie.Need-returns Inv-loop μ-loop
-returns c = ap (λ (t : Bool). check (not t)) (sym (walked-found (c .before .before .before .loop .inv) (c .before .before .loop-test .taken) (c .if1 .taken)))
-
-add-at : tie.Need-add-at Inv-loop μ-loop
-add-at c = omega (arith, walked-low (c .before .before .before .loop .inv), c .before .before .before .loop .inv .listed .entered .few)
-
-mul-at : tie.Need-mul-at Inv-loop μ-loop
-mul-at c = omega (arith, walked-low (c .before .before .before .loop .inv), c .before .before .before .loop .inv .listed .entered .few)
-
-shared-slice-read-at : tie.Need-shared-slice-read-at Inv-loop μ-loop
-shared-slice-read-at c = omega (arith, walked-low (c .before .before .before .before .loop .inv), c .before .before .before .before .loop .inv .listed .entered .entries)
-
-cast-at : tie.Need-cast-at Inv-loop μ-loop
-cast-at c = omega (arith, c .shared-slice-known2 .given (c .before .before .before .before .before .args .lists + (c .before .before .before .before .loop .at - 1)))
-
-loop-less : tie.Need-loop-less Inv-loop μ-loop
-loop-less c = walked-less (c .before .before .before .before .loop .inv) (c .before .before .before .loop-test .taken)
-
-loop-again : tie.Need-loop-again Inv-loop μ-loop
-loop-again c = walked-next (c .before .before .before .before .loop .inv) (c .before .before .before .loop-test .taken) (c .before .if1 .left)
-
-returns-2 : tie.Need-returns-2 Inv-loop μ-loop
-returns-2 c = ap (λ (t : Bool). check (not t)) (sym (walked-end (c .before .loop .inv) (omega arith)))
+returns-2 : tie.Need-returns-2
+returns-2 c = ap (λ (t : Bool). check (not t)) (sym (none-among _ (c .before .find .ensures) (omega (arith, c .if1 .left))))
 
 pub fresh-spec : {M : Type 1} → statement M
-fresh-spec =
-    tie.close
-    (tie.spec
-    Inv-loop
-    μ-loop
-    (λ c. walked-start (c .pre))
-    (λ c. search needs)
-    mul-if1
-    shared-slice-read-if1
-    returns
-    add-at
-    mul-at
-    shared-slice-read-at
-    cast-at
-    loop-less
-    loop-again
-    returns-2)
+fresh-spec = tie.close (tie.spec (λ c κs. search needs) returns returns-2)
