@@ -29,7 +29,8 @@ pub(crate) fn lowest_repeat(book: &[u8], header: Header) -> usize
     let mut rule = 0;
     while rule < rules {
         let keyed = keyed_rule(book, cursor);
-        let target = name(keyed.right) as usize;
+        let right = keyed.right;
+        let target = name(right) as usize;
         enter(&mut keys, &mut targets, 64, target, keyed.key, rule);
         sizes[target] += 1;
         cursor = keyed.next;
