@@ -24,17 +24,20 @@ module _ {keys : List ℕ} {count : ℕ} where
   pub lowest-start : Lowest keys 0 count count
   lowest-start = record { low = omega arith; found = λ l. absurd (omega arith); none = λ k l p. absurd (omega arith) }
 
-  pub lowest-next : {n lowest least : ℕ} → Lowest keys n count lowest → Narrowed keys n lowest least → Lowest keys (n + 1) count least
-  lowest-next {n} {lowest} {least} so-far here =
-      record {
-        low = omega (arith, so-far .low, here .low);
-        found = found-lower keys (so-far .found) (here .low) (here .found);
-        none = λ k l p. by-name k l p (lt-or-le (getD keys k 0 % 64) n);
-      }
-    where
-      by-name : (k : ℕ) → k < least → getD keys k 0 % 64 < n + 1 → (getD keys k 0 % 64 < n) ⊎ (n ≤ getD keys k 0 % 64) → repeated keys k ≡ false
-      by-name k l p (inl q) = so-far .none k (omega (arith, here .low)) q
-      by-name k l p (inr q) = here .none k l (omega arith)
+  module _ {n lowest own : ℕ} (so-far : Lowest keys n count lowest) (here : Narrowed keys n count own) where
+    -- below both the lowest so far and that of the name there is no repeat
+    lowest-none : {least : ℕ} → least ≤ lowest → least ≤ own → (k : ℕ) → k < least → getD keys k 0 % 64 < n + 1 → repeated keys k ≡ false
+    lowest-none {least} f g k l p = by-name (lt-or-le (getD keys k 0 % 64) n)
+      where
+        by-name : (getD keys k 0 % 64 < n) ⊎ (n ≤ getD keys k 0 % 64) → repeated keys k ≡ false
+        by-name (inl q) = so-far .none k (omega arith) q
+        by-name (inr q) = here .none k (omega arith) (omega arith)
+
+    pub lowest-own : own < lowest → Lowest keys (n + 1) count own
+    lowest-own l = record { low = here .low; found = here .found; none = lowest-none (omega arith) (omega arith) }
+
+    pub lowest-kept : lowest ≤ own → Lowest keys (n + 1) count lowest
+    lowest-kept l = record { low = so-far .low; found = so-far .found; none = lowest-none (omega arith) l }
 
 -- no rule at first, then one more
 pub sized-start : Sized (replicate 64 0) 0

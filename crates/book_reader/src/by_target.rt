@@ -47,11 +47,15 @@ fn over_names(keys: &[u64], targets: &[u16], sizes: &[u16], header: Header) -> u
     ensures { λ r. ⌜ Lowest (now (keys .entry)) (header .names) (header .rules) r ⌝ }
 {
     let names = header.names;
-    let mut lowest = header.rules;
+    let rules = header.rules;
+    let mut lowest = rules;
     let mut name = 0;
     while name < names {
-        lowest = narrowed(keys, targets, name, sizes[name], lowest);
+        let own = narrowed(keys, targets, name, sizes[name], rules);
         name += 1;
+        if own < lowest {
+            lowest = own;
+        }
     }
     lowest
 }
