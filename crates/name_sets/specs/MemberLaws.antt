@@ -1,5 +1,5 @@
 -- Names in and out of sets: a name read by a shift, the set of one name, what two sets share, a name taken out, and the lowest name.
-use mathlib.Core.Bool.{true, false, cond, not, _&&_}
+use mathlib.Core.Bool.{true, false, cond, not, _&&_, true≢false}
 use mathlib.Core.Logic.{_⊎_, inl, inr}
 use mathlib.Core.Path.{_≡_, refl, sym, ap, _∙_}
 use Prim.Native.Nat.{ℕ, zero, suc, _+_, _-_, _*_, _/_, _%_, _^_, _<_, _≤_}
@@ -10,7 +10,7 @@ use lib.Bits.{bitAnd, bitXor, and-mask, and-shr, and-mod, xor-shr, xor-mod, and-
 use lib.Count.{trailingZeros, under}
 use lib.Dec.{eqb, lit<}
 use lib.Pow.{pow-mono, shl-exact, shr-lt}
-use Rattle.base.specs.Truth.{eq-or-ne}
+use Rattle.base.specs.Truth.{lt-or-le, eq-or-ne}
 use Rattle.name_sets.specs.Mask.{has, only, count}
 use Rattle.name_sets.specs.MaskLaws.{two-bits, has-single, has-half, count-lt}
 
@@ -18,10 +18,17 @@ pub has-shift : (m y : ℕ) → eqb (bitAnd (m / 2 ^ y) 1) 1 ≡ has m y
 unfolding has
 has-shift m y = ap (λ (k : ℕ). eqb k 1) (and-mask (m / 2 ^ y) 1)
 
--- a set of 64 bits has no name from 64 on
-pub has-past : (m y : ℕ) → m < 2 ^ 64 → 64 ≤ y → has m y ≡ false
+-- a set of k bits has no name from k on
+pub has-past : (k m y : ℕ) → m < 2 ^ k → k ≤ y → has m y ≡ false
 unfolding has
-has-past m y h p = rw (div-eq-of-lt (lt-of-lt-of-le h (pow-mono p))) refl
+has-past k m y h p = rw (div-eq-of-lt (lt-of-lt-of-le h (pow-mono p))) refl
+
+pub has-range : (k m : ℕ) → m < 2 ^ k → (y : ℕ) → has m y ≡ true → y < k
+has-range k m fits y h = by-size (lt-or-le y k)
+  where
+    by-size : (y < k) ⊎ (k ≤ y) → y < k
+    by-size (inl l) = l
+    by-size (inr l) = absurd (true≢false (sym h ∙ has-past k m y fits l))
 
 single-shift : (x : ℕ) → x < 64 → 1 * 2 ^ x % 2 ^ 64 ≡ 2 ^ x
 single-shift x h = shl-exact {a = 1} 1 x 64 (lit< tt) (omega arith) ∙ one-mul (2 ^ x)

@@ -7,4 +7,4 @@ use Rattle.name_sets.proofs.has.Statement.{statement}
 use Rattle.name_sets.proofs.has.Tie as tie
 
 pub has-spec : {M : Type 1} → statement M
-has-spec = tie.close (tie.spec (λ c. sym (has-past _ _ (omega (arith, c .before .good)) (c .if1 .taken))) (λ c. search needs) (λ c. has-shift _ _))
+has-spec = tie.close (tie.spec (λ c. sym (has-past 64 _ _ (omega (arith, c .before .good)) (c .if1 .taken))) (λ c. search needs) (λ c. has-shift _ _))
