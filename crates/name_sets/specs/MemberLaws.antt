@@ -1,16 +1,16 @@
 -- Names in and out of sets: a name read by a shift, the set of one name, what two sets share, a name taken out, and the lowest name.
-use mathlib.Core.Bool.{true, false, cond, not, _&&_, true≢false}
+use mathlib.Core.Bool.{Bool, true, false, cond, not, _&&_, true≢false}
 use mathlib.Core.Logic.{_⊎_, inl, inr}
 use mathlib.Core.Path.{_≡_, refl, sym, ap, _∙_}
 use Prim.Native.Nat.{ℕ, zero, suc, _+_, _-_, _*_, _/_, _%_, _^_, _<_, _≤_}
-use native.Mathlib.Nat.{one-mul, mod-lt, pow-suc, div-one, div-eq-of-lt, lt-of-lt-of-le}
+use native.Mathlib.Nat.{one-mul, mod-lt, pow-suc, div-one, div-eq-of-lt, lt-of-lt-of-le, lt-of-le-of-lt}
 use native.Mathlib.Omega.{arith}
-use borrow.Author.Tests.{eq-eqb, ne-eqb, lt-ltb, le-ltb}
-use lib.Bits.{bitAnd, bitXor, and-mask, and-shr, and-mod, xor-shr, xor-mod, and-step, xor-step, and-self, xor-zero-r}
+use borrow.Author.Tests.{eq-eqb, ne-eqb, lt-ltb, le-ltb, not-true}
+use lib.Bits.{bitAnd, bitXor, and-mask, and-shr, and-mod, xor-shr, xor-mod, and-step, xor-step, and-self, and-le-l, xor-lt, xor-zero-r}
 use lib.Count.{trailingZeros, under}
 use lib.Dec.{eqb, lit<}
 use lib.Pow.{pow-mono, shl-exact, shr-lt}
-use Rattle.base.specs.Truth.{lt-or-le, eq-or-ne}
+use Rattle.base.specs.Truth.{and-left, and-right, true-or-false, lt-or-le, eq-or-ne}
 use Rattle.name_sets.specs.Mask.{has, only, count}
 use Rattle.name_sets.specs.MaskLaws.{two-bits, has-single, has-half, count-lt}
 
@@ -59,6 +59,35 @@ unfolding has
 has-xor a b y =
     rw (xor-shr a b y, xor-mod (a / 2 ^ y) (b / 2 ^ y) 1)
     (two-bits (λ p q. eqb (bitXor p q) 1 ≡ cond (eqb q 1) (not (eqb p 1)) (eqb p 1)) refl refl refl refl (a / 2 ^ y % 2) (b / 2 ^ y % 2) (mod-lt (a / 2 ^ y) (lit< tt)) (mod-lt (b / 2 ^ y) (lit< tt)))
+
+-- the names of one set that another has not
+abbrev pub minus : ℕ → ℕ → ℕ
+minus a b = bitXor a (bitAnd a b)
+
+pub minus-fits : (k a b : ℕ) → a < 2 ^ k → minus a b < 2 ^ k
+minus-fits k a b h = xor-lt k a (bitAnd a b) h (lt-of-le-of-lt (and-le-l a b) h)
+
+module _ (a b y : ℕ) where
+  pub has-minus : has (minus a b) y ≡ (has a y && not (has b y))
+  has-minus = has-xor a (bitAnd a b) y ∙ rw (has-and a b y) (by-bits (has a y) (has b y))
+    where
+      by-bits : (x z : Bool) → cond (x && z) (not x) x ≡ (x && not z)
+      by-bits true true = refl
+      by-bits true false = refl
+      by-bits false true = refl
+      by-bits false false = refl
+
+  pub minus-in : has (minus a b) y ≡ true → (has a y ≡ true) × (has b y ≡ false)
+  minus-in h =
+      let both = sym has-minus ∙ h in
+      (and-left (has a y) (not (has b y)) both, not-true (has b y) (and-right (has a y) (not (has b y)) both))
+
+  pub minus-or : has a y ≡ true → (has (minus a b) y ≡ true) ⊎ (has b y ≡ true)
+  minus-or h = by-bit (true-or-false (has b y))
+    where
+      by-bit : (has b y ≡ true) ⊎ (has b y ≡ false) → (has (minus a b) y ≡ true) ⊎ (has b y ≡ true)
+      by-bit (inl k) = inr k
+      by-bit (inr k) = inl (has-minus ∙ rw (h, k) refl)
 
 -- a name taken out: the others stay
 module _ (m x : ℕ) where
