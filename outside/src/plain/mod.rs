@@ -1,14 +1,18 @@
-//! The engine of document 01 in plain Rust, without proofs, with written derivations. The seven calls have the interface
-//! of the archive's C functions; beside them stand two other ways to decide membership, from the completed rules alone,
-//! another way to find the levels, and another way to check a written derivation.
+//! The engine of document 01 in plain Rust, without proofs, with written derivations and with what binds. The eight calls
+//! have the interface of the archive's C functions; beside them stand two other ways to decide membership, from the
+//! completed rules alone, another way to find the levels, another way to check a written derivation, and two other ways to
+//! find what binds.
 #![forbid(unsafe_code)]
 
+pub mod binding;
 pub mod book;
+pub mod closure;
 pub mod completion;
 pub mod derivation_checker;
 pub mod derivation_writer;
 pub mod intervals;
 pub mod levels;
+pub mod networks;
 pub mod order;
 pub mod paths;
 pub mod program;
@@ -19,7 +23,9 @@ pub mod steps;
 pub mod tables;
 #[cfg(test)]
 mod tests;
+pub mod trails;
 
+pub use binding::binds;
 pub use book::left;
 pub use derivation_checker::check_derivation;
 pub use derivation_writer::write_derivation;

@@ -29,10 +29,10 @@ pub enum Cause {
     ChainLength = 13,
     /// A role byte, asked or in the chain, of twice the heads or more.
     QueryRole = 14,
-    /// A chain of over 16 links, where a derivation is asked for.
+    /// A chain of over 16 links, where a derivation or a network is asked for.
     LongChain = 15,
-    /// Fewer than 16,384 bytes lent for the steps.
-    ShortSteps = 16,
+    /// Fewer bytes lent than the steps or the network need.
+    ShortBuffer = 16,
     /// Steps that are not in fours, or the first impossible one.
     Step = 17,
 }
