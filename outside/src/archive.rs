@@ -1,4 +1,4 @@
-//! The proved archive: its seven C functions as safe calls on slices.
+//! The proved archive: its eight C functions as safe calls on slices.
 
 use crate::plain::Refusal;
 
@@ -29,6 +29,10 @@ mod c {
         pub fn rabbitsteel_check_derivation(
             book: *const u8, book_len: usize, role: u8, chain: *const u8, chain_len: usize,
             steps: *const u8, steps_len: usize, answer: *mut u64,
+        ) -> u64;
+        pub fn rabbitsteel_binds(
+            book: *const u8, book_len: usize, role: u8, chain: *const u8, chain_len: usize,
+            network: *mut u8, network_len: usize, answer: *mut u64,
         ) -> u64;
     }
 }
@@ -248,6 +252,30 @@ pub fn check_derivation(book: &[u8], role: u8, chain: &[u8], steps: &[u8]) -> Re
             chain.len(),
             steps.as_ptr(),
             steps.len(),
+            &mut first,
+        )
+    };
+    Reply {
+        cause,
+        first,
+        second: 0,
+        third: 0,
+    }
+}
+
+/// Causes 1 to 8 and 13 to 16; accepted: 1 where the chain binds the role, else 0 and a network in the lent slice.
+pub fn binds(book: &[u8], role: u8, chain: &[u8], network: &mut [u8]) -> Reply {
+    let mut first = UNSET;
+    // SAFETY: as in `write_derivation`.
+    let cause = unsafe {
+        c::rabbitsteel_binds(
+            book.as_ptr(),
+            book.len(),
+            role,
+            chain.as_ptr(),
+            chain.len(),
+            network.as_mut_ptr(),
+            network.len(),
             &mut first,
         )
     };

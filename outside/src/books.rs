@@ -39,6 +39,17 @@ pub fn ladder(names: u8) -> Vec<u8> {
     encode(names, &rules)
 }
 
+/// A book of 64 names in a ladder, each with one rule of one link, and the rules last first: in their order each round over
+/// them adds one name. From name to name the number rises, or falls, and the links may turn at each.
+pub fn late_ladder(falling: bool, turning: bool) -> Vec<u8> {
+    let role = |rung: u8| 2 * if falling { 63 - rung } else { rung };
+    let rules: Vec<_> = (1..64)
+        .rev()
+        .map(|rung| (role(rung), [role(rung - 1) ^ u8::from(turning)]))
+        .collect();
+    encode(64, &rules)
+}
+
 /// A book with long ways of one-link rules: 64 names, each but the first above the one before it, all symmetric, and the
 /// last transitive. From the last name each link takes 63 steps down to the first, and one more to its inverse.
 pub fn long_ways() -> Vec<u8> {
@@ -122,6 +133,22 @@ impl Style {
                 forms: vec![1, 2, 3, 4, 4, 4, 5, 5, 5],
                 ..base
             },
+        }
+    }
+}
+
+impl Style {
+    /// A book of so few names that its networks of few places can be gone through one by one.
+    pub fn small(random: &mut Random, names: usize) -> Style {
+        Style {
+            names,
+            rules: random.between(0, 6),
+            inner: random.between(1, 4),
+            forms: vec![1, 1, 1, 2, 3, 4, 5],
+            inverses: random.pick(&[20, 50]),
+            near: 0,
+            leaves: 0,
+            states: MOST_STATES,
         }
     }
 }

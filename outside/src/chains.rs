@@ -1,4 +1,4 @@
-//! Chains from a seed: derived by random replacements, nearly derived, and random.
+//! Chains from a seed: derived by random replacements, nearly derived, folded, and random; and walks along them.
 #![forbid(unsafe_code)]
 
 use crate::books::{inverse, Axiom};
@@ -60,6 +60,46 @@ pub fn nearly(random: &mut Random, chain: &[u8], names: usize) -> Vec<u8> {
         _ => chain[place] ^= 1,
     }
     chain
+}
+
+/// A chain with ways out, back and out again gone once, while it has any: u inv(u) u becomes u. It binds what the chain
+/// is derived from.
+pub fn folded(chain: &[u8]) -> Vec<u8> {
+    let mut chain = chain.to_vec();
+    while let Some((start, length)) = out_and_back(&chain) {
+        chain.drain(start..start + 2 * length);
+    }
+    chain
+}
+
+/// Where u inv(u) u starts, and the length of u.
+fn out_and_back(chain: &[u8]) -> Option<(usize, usize)> {
+    let parts = (1..=chain.len() / 3)
+        .flat_map(|length| (0..=chain.len() - 3 * length).map(move |start| (start, length)));
+    parts.into_iter().find(|&(start, length)| {
+        let part = |number: usize| &chain[start + number * length..][..length];
+        let back = part(1).iter().rev().map(|link| link ^ 1);
+        part(0) == part(2) && back.eq(part(0).iter().copied())
+    })
+}
+
+/// A walk of so many links to and fro along a chain, from any place: the chain that it spells, where it starts and where it
+/// ends.
+pub fn walk(random: &mut Random, chain: &[u8], links: usize) -> (Vec<u8>, usize, usize) {
+    let start = random.between(0, chain.len());
+    let mut place = start;
+    let spelled = (0..links).map(|_| {
+        let ahead = place == 0 || (place < chain.len() && random.percent(60));
+        if ahead {
+            place += 1;
+            chain[place - 1]
+        } else {
+            place -= 1;
+            chain[place] ^ 1
+        }
+    });
+    let spelled = spelled.collect();
+    (spelled, start, place)
 }
 
 pub fn random(random: &mut Random, names: usize, links: usize) -> Vec<u8> {

@@ -3,8 +3,10 @@
 #![forbid(unsafe_code)]
 
 use crate::archive::{self, Reply};
+use crate::plain::binding::network_bytes;
 use crate::plain::book::Book;
 use crate::plain::derivation_writer::MAX_STEPS;
+use crate::plain::networks::Network;
 use crate::plain::{self, levels, steps};
 use crate::random::Random;
 use std::collections::BTreeMap;
@@ -296,7 +298,7 @@ impl Trial {
         let mut outside = given_bytes.clone();
         outside[written.clone()].copy_from_slice(&before[written.clone()]);
         if !same || !counted || !lent_kept || outside != before {
-            let mut input = derivation_input(book, role, chain);
+            let mut input = question_input(book, role, chain);
             input.push(("bytes lent", lent.to_string()));
             input.extend(difference("bytes behind the steps", &outside, &before));
             self.fail("write_derivation", given, owed, &input);
@@ -314,7 +316,7 @@ impl Trial {
         self.most("steps", count as u64);
         let steps = given_bytes[written].to_vec();
         let reply = self.check_derivation(book, role, chain, &steps);
-        let mut input = derivation_input(book, role, chain);
+        let mut input = question_input(book, role, chain);
         input.push(("steps", hex(&steps)));
         self.check(
             reply == Reply::answered(true),
@@ -331,7 +333,7 @@ impl Trial {
         let owed = plain::check_derivation(book, role, chain, steps).into();
         let lent_kept =
             kept.0 == black_box(book) && kept.1 == black_box(chain) && kept.2 == black_box(steps);
-        let mut input = derivation_input(book, role, chain);
+        let mut input = question_input(book, role, chain);
         input.push(("steps", hex(&steps[..steps.len().min(4 * MAX_STEPS)])));
         if given != owed || !lent_kept {
             self.fail("check_derivation", given, owed, &input);
@@ -347,6 +349,43 @@ impl Trial {
             self.most("steps checked", steps.len() as u64);
         }
         self.tally("check_derivation", owed)
+    }
+
+    /// Asks whether a chain binds a role, with so many bytes lent between fences. A network that is written is held to its
+    /// sentences as well.
+    pub fn binds(&mut self, book: &[u8], role: u8, chain: &[u8], lent: usize) -> Reply {
+        let kept = (book.to_vec(), chain.to_vec());
+        let noise = self.noise[..lent + 2 * FENCE].iter();
+        let mut given_bytes: Vec<u8> = noise.map(|number| *number as u8).collect();
+        let mut owed_bytes = given_bytes.clone();
+        let given = archive::binds(book, role, chain, &mut given_bytes[FENCE..FENCE + lent]);
+        let owed = plain::binds(book, role, chain, &mut owed_bytes[FENCE..FENCE + lent]).into();
+        let lent_kept = kept.0 == black_box(book) && kept.1 == black_box(chain);
+        if given != owed || given_bytes != owed_bytes || !lent_kept {
+            let mut input = question_input(book, role, chain);
+            input.push(("bytes lent", lent.to_string()));
+            input.extend(difference("network", &given_bytes, &owed_bytes));
+            self.fail("binds", given, owed, &input);
+        }
+        if owed == Reply::answered(false) {
+            self.network(book, role, chain, &owed_bytes[FENCE..]);
+        }
+        self.tally("binds", owed)
+    }
+
+    /// Holds a network to its sentences: it obeys the book, holds the chain and lacks the link.
+    fn network(&mut self, book: &[u8], role: u8, chain: &[u8], bytes: &[u8]) {
+        let input = question_input(book, role, chain);
+        let book = Book::read(book).expect("the book was accepted");
+        let bytes = &bytes[..network_bytes(book.names(), chain.len())];
+        let network = Network::new(chain.len() + 1, bytes);
+        let holds = bytes.iter().all(|&byte| byte <= 1)
+            && network.obeys(&book)
+            && network.holds(chain)
+            && !network.links(role, 0, chain.len());
+        self.check(holds, "the network is not one of its sentences", &input);
+        self.count("networks by their sentences", 1);
+        self.most("bytes of a network", bytes.len() as u64);
     }
 
     /// Counts something worth telling.
@@ -463,7 +502,7 @@ impl Call<'_> {
 }
 
 /// A question about a book, as it is told.
-fn derivation_input(book: &[u8], role: u8, chain: &[u8]) -> Vec<(&'static str, String)> {
+fn question_input(book: &[u8], role: u8, chain: &[u8]) -> Vec<(&'static str, String)> {
     vec![
         ("book", hex(book)),
         ("role", hex(&[role])),

@@ -3,6 +3,7 @@
 use crate::archive::Reply;
 use crate::books::{careless, encode, inverse, repeating, Axiom, Draft, Style, MOST_RULES};
 use crate::chains::{self, Replacements};
+use crate::plain::binding::network_bytes;
 use crate::plain::book::Book;
 use crate::plain::derivation_checker::MAX_DERIVED_LINKS;
 use crate::plain::derivation_writer::LENT_BYTES;
@@ -34,6 +35,8 @@ pub const VALID: &[Met] = &[
     Met::Refused("derived", 14),
     Met::Yes("write_derivation"),
     Met::No("write_derivation"),
+    Met::Yes("binds"),
+    Met::No("binds"),
     Met::Counted("questions by intervals"),
     Met::Counted("questions by rewriting"),
     Met::Counted("levels by their sentence"),
@@ -99,6 +102,7 @@ pub const OVER_LIMIT: &[Met] = &[
     Met::Accepted("order"),
     Met::Refused("build", 9),
     Met::Yes("write_derivation"),
+    Met::Yes("binds"),
     Met::Counted("levels by their sentence"),
 ];
 
@@ -124,6 +128,7 @@ pub const WITHOUT_ORDER: &[Met] = &[
     Met::Refused("derived", 8),
     Met::Refused("write_derivation", 8),
     Met::Refused("check_derivation", 8),
+    Met::Refused("binds", 8),
 ];
 
 /// A book with a rule, or a few, that leave it without an order.
@@ -212,8 +217,8 @@ pub fn any_rules(trial: &mut Trial, random: &mut Random) {
 }
 
 /// Reads, checks and builds a book, with levels lent for all names and with fewer or more, and with tables lent that are
-/// long enough, a little too short or empty, and asks it for a derivation. What is wrong with a book comes before what is
-/// wrong with the tables or the steps, and that before what is wrong with a question.
+/// long enough, a little too short or empty, and asks it for a derivation and for what binds. What is wrong with a book
+/// comes before what is wrong with the tables or the steps, and that before what is wrong with a question.
 fn everything(trial: &mut Trial, random: &mut Random, book: &[u8]) -> Option<Tables> {
     trial.read(book);
     trial.order(book, 64);
@@ -225,6 +230,8 @@ fn everything(trial: &mut Trial, random: &mut Random, book: &[u8]) -> Option<Tab
     trial.write_derivation(book, 1, &[1], LENT_BYTES);
     trial.check_derivation(book, 255, &[], &[0]);
     trial.check_derivation(book, 1, &[1], &[0; 4]);
+    trial.binds(book, 255, &[], 0);
+    trial.binds(book, 1, &[1], network_bytes(64, 1));
     let tables = trial.build(book, 64, 15360)?;
     let (heads, moves) = (tables.heads.len(), tables.moves.len());
     let heads_lent = (heads + random.below(4)).saturating_sub(1);
@@ -364,7 +371,7 @@ impl Asker<'_> {
         trial.check(same, "derived and ask differ", &input);
     }
 
-    /// Each yes of the tables has a derivation, and no other question has.
+    /// Each yes of the tables has a derivation, and no other question has; a derived chain binds.
     fn written(&self, trial: &mut Trial, random: &mut Random, chain: &[u8], roles: u128) {
         let any = random.below(2 * self.names) as u8;
         let derived = (0..2 * self.names as u8).find(|role| roles >> role & 1 == 1);
@@ -377,6 +384,10 @@ impl Asker<'_> {
                 ("chain", hex(chain)),
             ];
             trial.check(same, "tables and written derivations differ", &input);
+            let lent = network_bytes(self.names, chain.len());
+            let binds = trial.binds(self.book, role, chain, lent) == Reply::answered(true);
+            let holds = binds || steps.is_none();
+            trial.check(holds, "a derived chain does not bind", &input);
         }
     }
 

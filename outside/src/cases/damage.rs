@@ -1,6 +1,7 @@
 //! Cases with damaged books: what is left of a book when bytes are changed, missing or too many.
 
 use crate::books::encode;
+use crate::plain::binding::network_bytes;
 use crate::plain::derivation_writer::LENT_BYTES;
 use crate::random::Random;
 use crate::trial::{Met, Trial};
@@ -31,7 +32,7 @@ pub const LENGTHS: &[Met] = &[
     Met::Refused("build", 8),
 ];
 
-/// Puts bytes to all six calls that take a book, with a short question.
+/// Puts bytes to all seven calls that take a book, with a short question.
 pub fn any_book(trial: &mut Trial, random: &mut Random, book: &[u8]) {
     trial.read(book);
     let ordered = trial.order(book, random.pick(&[0, 5, 64, 70])).cause == 0;
@@ -44,6 +45,7 @@ pub fn any_book(trial: &mut Trial, random: &mut Random, book: &[u8]) {
     trial.derived(book, 64, moves, role, chain);
     trial.write_derivation(book, role, chain, LENT_BYTES);
     trial.check_derivation(book, role, chain, &[0; 4]);
+    trial.binds(book, role, chain, network_bytes(64, chain.len()));
 }
 
 /// Sets one byte of a book to these values.

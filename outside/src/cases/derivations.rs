@@ -235,7 +235,7 @@ fn write(
 }
 
 /// A book with an order, within the state limit or not.
-fn drawn(random: &mut Random) -> Draft {
+pub fn drawn(random: &mut Random) -> Draft {
     let style = Style {
         states: random.pick(&[MOST_STATES, u64::MAX]),
         ..Style::draw(random)
