@@ -2,7 +2,7 @@
 
 use outside::archive::{self, Reply};
 use outside::books::{encode, fullest, ladder, longest, HALL};
-use outside::cases::{books, damage, derivations, lent, tables};
+use outside::cases::{binding, books, damage, derivations, lent, tables};
 use outside::trial::run_exactly;
 
 fn accepted(first: u64, second: u64, third: u64) -> Reply {
@@ -158,6 +158,45 @@ fn hall_derivations() {
     assert_eq!(check(&[]), Reply::answered(false));
     assert_eq!(check(&[0, 0, 2]), refused(17, 0));
     assert_eq!(check(&[0, 0, 2, 0, 0, 0, 2, 0]), refused(17, 1));
+}
+
+/// What binds in the book of request F-4, in the hall book, and in one without a rule, with the networks by hand.
+#[test]
+fn worked_networks() {
+    let serves = encode(2, &[(2, [0, 1, 0])]);
+    let none = encode(2, &[] as &[(u8, [u8; 0])]);
+    let written = |book: &[u8], role: u8, chain: &[u8], network: &[u8]| {
+        let mut lent = [99; 128];
+        let reply = archive::binds(book, role, chain, &mut lent);
+        assert_eq!(reply, Reply::answered(network.is_empty()));
+        assert_eq!(lent[..network.len()], *network);
+        assert!(lent[network.len()..].iter().all(|&byte| byte == 99));
+    };
+    written(&serves, 2, &[0], &[]);
+    written(&serves, 3, &[1], &[]);
+    written(&serves, 2, &[1], &[0, 0, 1, 0, 0, 0, 1, 0]);
+    written(&none, 3, &[0], &[0, 1, 0, 0, 0, 0, 0, 0]);
+    written(&none, 3, &[3], &[]);
+    written(HALL, 6, &[0, 0, 2, 4], &[]);
+    let refusal = |role: u8, chain: &[u8], bytes: usize| {
+        let mut lent = vec![99; bytes];
+        let reply = archive::binds(HALL, role, chain, &mut lent);
+        assert_eq!(lent, vec![99; bytes]);
+        reply
+    };
+    assert_eq!(refusal(8, &[], 20_000), refused(13, 0));
+    assert_eq!(refusal(8, &[0; 17], 0), refused(14, 0));
+    assert_eq!(refusal(0, &[0; 17], 0), refused(15, 0));
+    assert_eq!(refusal(0, &[0; 16], 1155), refused(16, 0));
+    assert_eq!(refusal(0, &[0; 16], 1156), Reply::answered(true));
+}
+
+#[test]
+fn a_little_of_binding() {
+    run_exactly("networks", 60, binding::NETWORKS, binding::networks);
+    run_exactly("limits", 1, binding::LIMITS, |trial, random| {
+        binding::limits(trial, random, HALL);
+    });
 }
 
 #[test]
