@@ -1,7 +1,8 @@
 /*
  * The worked example: prints the levels of the hall book's names, builds its tables, asks it five
- * questions and prints the lines that the program engine writes for them, and how the chain of one
- * of them is derived. Then it shows a book that is refused.
+ * questions and prints the lines that the program engine writes for them, how the chain of one of
+ * them is derived, and a network in which the chain of another does not bind. Then it shows a book
+ * that is refused.
  */
 #include <inttypes.h>
 #include <stdio.h>
@@ -52,8 +53,9 @@ static uint8_t levels[RABBITSTEEL_NAMES_MAX];
 static uint16_t heads[RABBITSTEEL_NAMES_MAX];
 static uint16_t moves[RABBITSTEEL_MOVES_LEN];
 
-/* Memory that suffices for every derivation. */
+/* Memory that suffices for every derivation, and for every network. */
 static uint8_t steps[RABBITSTEEL_STEPS_LEN];
+static uint8_t network[RABBITSTEEL_NETWORK_LEN];
 
 /* The program's line for a refused book, and the cause in words. */
 static void print_refusal(uint64_t cause, uint64_t value)
@@ -128,10 +130,29 @@ static void print_derivation(size_t number, const uint8_t *book, size_t length)
                step[3] ? "inverse of " : "", step[2]);
 }
 
+/* Prints the links of a network that obeys the book and holds the chain without the asked link. */
+static void print_network(size_t number, const uint8_t *book, size_t length)
+{
+    const struct question *asked = &questions[number];
+    size_t places = asked->length + 1;
+    uint64_t names, rules, binds;
+    uint64_t cause = rabbitsteel_binds(book, length, asked->role, asked->chain, asked->length,
+                                       network, sizeof network, &binds);
+
+    if (cause != RABBITSTEEL_ACCEPTED || binds)
+        return;
+    rabbitsteel_read(book, length, &names, &rules);
+    for (size_t i = 0; i < (size_t)names * places * places; i++)
+        if (network[i])
+            printf("%zu name %zu links %zu to %zu\n", number, i / places / places,
+                   i / places % places, i % places);
+}
+
 int main(void)
 {
     ask_all(hall, sizeof hall);
     print_derivation(2, hall, sizeof hall);
+    print_network(1, hall, sizeof hall);
     ask_all(circle, sizeof circle);
     return 0;
 }

@@ -27,7 +27,7 @@ extern "C" {
 #endif
 
 /* The largest sizes. Buffers of NAMES_MAX levels, NAMES_MAX heads and MOVES_LEN moves suffice for
-   every book, and STEPS_LEN bytes for every derivation. */
+   every book, STEPS_LEN bytes for every derivation, and NETWORK_LEN bytes for every network. */
 #define RABBITSTEEL_BOOK_MAX 2568   /* bytes of a book */
 #define RABBITSTEEL_NAMES_MAX 64    /* names of a book, their levels, and heads of its tables */
 #define RABBITSTEEL_RULES_MAX 256   /* rules of a book */
@@ -38,6 +38,8 @@ extern "C" {
 #define RABBITSTEEL_DERIVED_MAX 16  /* links of a chain whose derivation is written or checked */
 #define RABBITSTEEL_STEPS_MAX 4096  /* steps of a derivation that is written */
 #define RABBITSTEEL_STEPS_LEN 16384 /* bytes to lend for its steps, four to a step */
+#define RABBITSTEEL_BINDS_MAX 16    /* links of a chain that is asked whether it binds a role */
+#define RABBITSTEEL_NETWORK_LEN 18496 /* bytes of the largest network: 64 names, 17 places */
 
 /* The label of a silent move. Labels below it are role bytes. */
 #define RABBITSTEEL_SILENT 128
@@ -76,9 +78,9 @@ enum rabbitsteel_cause {
     RABBITSTEEL_CAUSE_ROLE = 14,      /* a role, asked or in the chain, of a name that the book or
                                          the tables do not have */
 
-    /* its derivation */
+    /* its derivation or network */
     RABBITSTEEL_CAUSE_LONG = 15,      /* over 16 links */
-    RABBITSTEEL_CAUSE_BUFFER = 16,    /* fewer than 16,384 bytes lent for the steps */
+    RABBITSTEEL_CAUSE_BUFFER = 16,    /* fewer bytes lent than the steps or the network need */
     RABBITSTEEL_CAUSE_STEP = 17       /* bytes not in fours: 0; else the first impossible step */
 };
 
@@ -103,7 +105,7 @@ static inline const char *rabbitsteel_words(uint64_t cause)
     case RABBITSTEEL_CAUSE_CHAIN: return "the chain has 0 or over 1,024 links";
     case RABBITSTEEL_CAUSE_ROLE: return "a role of a name that the book or the tables do not have";
     case RABBITSTEEL_CAUSE_LONG: return "the chain has over 16 links";
-    case RABBITSTEEL_CAUSE_BUFFER: return "fewer than 16,384 bytes lent for the steps";
+    case RABBITSTEEL_CAUSE_BUFFER: return "fewer bytes lent than the steps or the network need";
     case RABBITSTEEL_CAUSE_STEP: return "steps not in fours of bytes, or an impossible step";
     default: return "no cause has this number";
     }
@@ -194,6 +196,24 @@ uint64_t rabbitsteel_write_derivation(const uint8_t *book, size_t book_len, uint
 uint64_t rabbitsteel_check_derivation(const uint8_t *book, size_t book_len, uint8_t role,
                                       const uint8_t *chain, size_t chain_len, const uint8_t *steps,
                                       size_t steps_len, uint64_t *answer);
+
+/*
+ * Whether the chain binds the role: whether in every finite network that obeys the book's rules and
+ * holds the chain from one place to another, or back to itself, the role links the chain's ends.
+ * Causes 1 to 8 and 13 to 16, for books with an order and any number of states. A derived chain
+ * binds; not every chain that binds is derived.
+ * Accepted: *answer is 1 where the chain binds the role, and network is unchanged. Or *answer is 0,
+ * and the first names * (links + 1) * (links + 1) bytes of network are written: a network of
+ * links + 1 places, the chain running from place 0 to the last, which obeys the book and lacks the
+ * asked link. Its links are those that the rules force on the chain alone: name m links place x to
+ * place y where byte (m * (links + 1) + x) * (links + 1) + y is 1, and does not where it is 0. The
+ * bytes after them keep their values.
+ * Refused: *answer is the value beside the cause; network is unchanged.
+ * So many bytes have to be lent, whatever the answer; RABBITSTEEL_NETWORK_LEN suffice for all.
+ */
+uint64_t rabbitsteel_binds(const uint8_t *book, size_t book_len, uint8_t role, const uint8_t *chain,
+                           size_t chain_len, uint8_t *network, size_t network_len,
+                           uint64_t *answer);
 
 #ifdef __cplusplus
 }

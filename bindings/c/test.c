@@ -30,6 +30,8 @@ static uint64_t (*const call_write)(const uint8_t *, size_t, uint8_t, const uint
 static uint64_t (*const call_check)(const uint8_t *, size_t, uint8_t, const uint8_t *, size_t,
                                     const uint8_t *, size_t,
                                     uint64_t *) = rabbitsteel_check_derivation;
+static uint64_t (*const call_binds)(const uint8_t *, size_t, uint8_t, const uint8_t *, size_t,
+                                    uint8_t *, size_t, uint64_t *) = rabbitsteel_binds;
 static const char *(*const call_words)(uint64_t) = rabbitsteel_words;
 
 /* The same as they stand in the header: two parameters of one type are told apart by name alone. */
@@ -49,6 +51,9 @@ static const char *const prototypes[] = {
     "uint64_t *second);",
     "uint64_t rabbitsteel_check_derivation(const uint8_t *book, size_t book_len, uint8_t role, "
     "const uint8_t *chain, size_t chain_len, const uint8_t *steps, size_t steps_len, "
+    "uint64_t *answer);",
+    "uint64_t rabbitsteel_binds(const uint8_t *book, size_t book_len, uint8_t role, "
+    "const uint8_t *chain, size_t chain_len, uint8_t *network, size_t network_len, "
     "uint64_t *answer);",
 };
 
@@ -94,6 +99,8 @@ static void try_constants(void)
     NUMBER(RABBITSTEEL_DERIVED_MAX, 16);
     NUMBER(RABBITSTEEL_STEPS_MAX, 4096);
     NUMBER(RABBITSTEEL_STEPS_LEN, 16384);
+    NUMBER(RABBITSTEEL_BINDS_MAX, 16);
+    NUMBER(RABBITSTEEL_NETWORK_LEN, 18496);
     NUMBER(RABBITSTEEL_SILENT, 128);
     NUMBER(RABBITSTEEL_ACCEPTED, 0);
     NUMBER(RABBITSTEEL_CAUSE_SIZE, 1);
@@ -149,7 +156,7 @@ static void try_words(void)
     TEXT(call_words(13), "the chain has 0 or over 1,024 links");
     TEXT(call_words(14), "a role of a name that the book or the tables do not have");
     TEXT(call_words(15), "the chain has over 16 links");
-    TEXT(call_words(16), "fewer than 16,384 bytes lent for the steps");
+    TEXT(call_words(16), "fewer bytes lent than the steps or the network need");
     TEXT(call_words(17), "steps not in fours of bytes, or an impossible step");
     TEXT(call_words(18), "no cause has this number");
     TEXT(call_words(UINT64_MAX), "no cause has this number");
@@ -171,14 +178,16 @@ static const uint16_t hall_moves[54] = {
 #define NOISE(place) ((uint16_t)(0x8000u + (place)))
 #define NOISE_BYTE(place) ((uint8_t)(0x80u + (place)))
 
-enum { FENCE = 8, LEVELS = 70, HEADS = 70, MOVES = 15366, STEPS = 16390 };
+enum { FENCE = 8, LEVELS = 70, HEADS = 70, MOVES = 15366, STEPS = 16390, NETWORK = 18502 };
 
-/* Numbers, levels, tables and steps lent to a call, each with a fence before and after it. */
+/* Numbers, levels, tables, steps and a network lent to a call, each with a fence before and after
+   it. */
 static uint64_t numbers[7];
 static uint8_t levels[FENCE + LEVELS + FENCE];
 static uint16_t heads[FENCE + HEADS + FENCE];
 static uint16_t moves[FENCE + MOVES + FENCE];
 static uint8_t steps[FENCE + STEPS + FENCE];
+static uint8_t network[FENCE + NETWORK + FENCE];
 static uint64_t *const first = numbers + 1;
 static uint64_t *const second = numbers + 3;
 static uint64_t *const third = numbers + 5;
@@ -186,6 +195,7 @@ static uint8_t *const lent_levels = levels + FENCE;
 static uint16_t *const lent_heads = heads + FENCE;
 static uint16_t *const lent_moves = moves + FENCE;
 static uint8_t *const lent_steps = steps + FENCE;
+static uint8_t *const lent_network = network + FENCE;
 
 static void clear(void)
 {
@@ -199,6 +209,8 @@ static void clear(void)
         moves[i] = NOISE(i);
     for (size_t i = 0; i < sizeof steps; i++)
         steps[i] = NOISE_BYTE(i);
+    for (size_t i = 0; i < sizeof network; i++)
+        network[i] = NOISE_BYTE(i);
 }
 
 /* Whether memory holds these numbers where it was lent, and what it held everywhere else. */
@@ -240,6 +252,12 @@ static int levels_hold(const uint8_t *written, size_t count)
 static int steps_hold(const uint8_t *written, size_t count)
 {
     return bytes_hold(steps, sizeof steps, written, count);
+}
+
+/* Whether the first bytes of the network are these, and all else is kept. */
+static int network_holds(const uint8_t *written, size_t count)
+{
+    return bytes_hold(network, sizeof network, written, count);
 }
 
 /* What a call returned and stored; nothing around the stored numbers is touched. */
@@ -302,7 +320,7 @@ static void try_not_built(const struct refused_book *book)
     check(tables_hold(0, 0), "a refused build and question changes the tables", book->line);
 }
 
-/* A book that has no order, and so no derivations, whatever is asked. */
+/* A book that has no order, and so no derivations and no networks, whatever is asked. */
 static void try_not_derived(const struct refused_book *book)
 {
     clear();
@@ -315,6 +333,13 @@ static void try_not_derived(const struct refused_book *book)
     clear();
     told(call_check(book->bytes, book->length, 255, book->bytes, 0, book->bytes, 1, first),
          book->cause, book->value, UNSET, UNSET, book->line);
+    clear();
+    told(call_binds(book->bytes, book->length, 255, book->bytes, 0, lent_network, 0, first),
+         book->cause, book->value, UNSET, UNSET, book->line);
+    told(call_binds(book->bytes, book->length, 1, (const uint8_t[]){0}, 1, lent_network, NETWORK,
+                    first),
+         book->cause, book->value, UNSET, UNSET, book->line);
+    check(network_holds(NULL, 0), "a refused question changes the network", book->line);
 }
 
 /* A book that has no order, and so no tables. It cannot be read, or has so many names and rules. */
@@ -678,6 +703,103 @@ static void try_many_steps(void)
     try_check(hall, 20, 0, parts, 16, same, 4 * 16, 17, 15, __LINE__);
 }
 
+struct binding {
+    const uint8_t *book;
+    size_t book_len;
+    uint8_t role;
+    const uint8_t *chain;
+    size_t length;
+    uint64_t cause, binds;
+    const uint8_t *network;
+    size_t count;
+    int line;
+};
+
+/* A question with just enough bytes lent and with more, and with too few: none, and one less than
+   enough. These are refused after the question and before the answer. */
+static void try_binding(const struct binding *b)
+{
+    size_t places = b->length + 1;
+    size_t needed = b->length <= 16 ? b->book[5] * places * places : 18496;
+    size_t enough[] = {needed, NETWORK}, too_few[] = {0, needed - 1};
+
+    for (size_t i = 0; i < 2; i++) {
+        clear();
+        told(call_binds(b->book, b->book_len, b->role, b->chain, b->length, lent_network, enough[i],
+                        first),
+             b->cause, b->binds, UNSET, UNSET, b->line);
+        check(network_holds(b->network, b->count), "the network", b->line);
+        clear();
+        told(call_binds(b->book, b->book_len, b->role, b->chain, b->length, lent_network,
+                        too_few[i], first),
+             b->cause ? b->cause : 16, 0, UNSET, UNSET, b->line);
+        check(network_holds(NULL, 0), "a short buffer", b->line);
+    }
+}
+
+#define BINDS(book, book_len, role, chain, length)                                                 \
+    try_binding(&(struct binding){book, book_len, role, chain, length, 0, 1, NULL, 0, __LINE__})
+#define LACKS(book, book_len, role, chain, length, network, count)                                 \
+    try_binding(                                                                                   \
+        &(struct binding){book, book_len, role, chain, length, 0, 0, network, count, __LINE__})
+#define ASKED_IN_VAIN(role, chain, length, cause)                                                  \
+    try_binding(&(struct binding){hall, 20, role, chain, length, cause, 0, NULL, 0, __LINE__})
+
+/* Chains that bind, derived and not; networks by hand; and what is asked in vain. */
+static void try_bindings(void)
+{
+    /* serves, inv serves, serves to covers */
+    static const uint8_t serves[] = {'R', 'L', 'B', 1, 0, 2, 1, 0, 2, 3, 0, 1, 0};
+    /* s t inv t inv s s t to r */
+    static const uint8_t twice[] = {'R', 'L', 'B', 1, 0, 3, 1, 0, 0, 6, 2, 4, 5, 3, 2, 4};
+    /* inv s s to t; s t to r: through a link of a place to itself */
+    static const uint8_t itself[] = {'R', 'L', 'B', 1, 0, 3, 2, 0, 4, 2, 3, 2, 0, 2, 2, 4};
+    static const uint8_t none[] = {'R', 'L', 'B', 1, 0, 2, 0, 0};
+    static const uint8_t role[] = {0, 1, 2, 3, 4}, parts[1025], bad[17] = {8}, last[] = {0, 255};
+
+    BINDS(serves, sizeof serves, 2, role, 1);
+    BINDS(serves, sizeof serves, 3, role + 1, 1);
+    LACKS(serves, sizeof serves, 3, role, 1, ((const uint8_t[]){0, 1, 0, 0, 0, 1, 0, 0}), 8);
+    LACKS(serves, sizeof serves, 2, role + 1, 1, ((const uint8_t[]){0, 0, 1, 0, 0, 0, 1, 0}), 8);
+    BINDS(twice, sizeof twice, 0, ((const uint8_t[]){2, 4}), 2);
+    BINDS(itself, sizeof itself, 0, role + 2, 1);
+    LACKS(itself, sizeof itself, 4, role + 2, 1,
+          ((const uint8_t[]){0, 1, 0, 0, 0, 1, 0, 0, 0, 0, 0, 1}), 12);
+    /* The network is not turned round where an inverse is asked about. */
+    LACKS(none, sizeof none, 3, role, 1, ((const uint8_t[]){0, 1, 0, 0, 0, 0, 0, 0}), 8);
+    LACKS(none, sizeof none, 3, role + 1, 1, ((const uint8_t[]){0, 0, 1, 0, 0, 0, 0, 0}), 8);
+    BINDS(none, sizeof none, 3, role + 3, 1);
+    BINDS(hall, 20, 6, ((const uint8_t[]){0, 0, 2, 4}), 4);
+    BINDS(hall, 20, 0, parts, 16);
+    ASKED_IN_VAIN(8, parts, 0, 13);
+    ASKED_IN_VAIN(8, parts, 1025, 13);
+    ASKED_IN_VAIN(8, parts, 17, 14);
+    ASKED_IN_VAIN(0, bad, 17, 14);
+    ASKED_IN_VAIN(0, last, 2, 14);
+    ASKED_IN_VAIN(0, parts, 17, 15);
+    ASKED_IN_VAIN(0, parts, 1024, 15);
+}
+
+/* The largest network: 64 names in a ladder, each with the name before it on the left of its only
+   rule, and 17 places. A chain of the first name links each place to the next by all names. */
+static void try_largest_network(void)
+{
+    static const uint8_t first_name[16];
+    static uint8_t owed[18496];
+    uint8_t ladder[8 + 3 * 63] = {'R', 'L', 'B', 1, 0, 64, 63, 0};
+
+    for (uint8_t rule = 0; rule < 63; rule++) {
+        ladder[8 + 3 * rule] = (uint8_t)(2 * rule + 2);
+        ladder[9 + 3 * rule] = 1;
+        ladder[10 + 3 * rule] = (uint8_t)(2 * rule);
+    }
+    for (size_t name = 0; name < 64; name++)
+        for (size_t place = 0; place < 16; place++)
+            owed[(17 * name + place) * 17 + place + 1] = 1;
+    LACKS(ladder, sizeof ladder, 126, first_name, 16, owed, sizeof owed);
+    BINDS(ladder, sizeof ladder, 126, first_name, 1);
+}
+
 /* A file's text, or what a program prints, with every run of white space as one space. */
 static char *text_of(FILE *file)
 {
@@ -717,9 +839,9 @@ static void try_header(const char *path)
 
     for (size_t i = 0; i < sizeof prototypes / sizeof prototypes[0]; i++)
         check(times(text, prototypes[i]) == 1, prototypes[i], __LINE__);
-    NUMBER(times(text, "uint64_t rabbitsteel_"), 7);
+    NUMBER(times(text, "uint64_t rabbitsteel_"), 8);
     NUMBER(times(text, "static inline"), 1);
-    NUMBER(times(text, "#define "), 15);
+    NUMBER(times(text, "#define "), 17);
     NUMBER(times(text, " = "), 18);
     if (file)
         fclose(file);
@@ -734,6 +856,7 @@ static void try_example(const char *path)
 
     TEXT(text, "levels 1 2 1 3 book 16 18 3 0 yes 1 no 2 yes 3 refused 13 4 refused 14 "
                "2 at 0: inverse of rule 2 2 at 1: inverse of rule 1 "
+               "1 name 0 links 1 to 2 1 name 1 links 0 to 1 1 name 2 links 2 to 3 "
                "book refused 8 1 refused 8: no regular order; rule 1 ");
     CHECK(program && pclose(program) == 0);
     free(text);
@@ -759,6 +882,8 @@ int main(int argc, char **argv)
     try_written_and_checked();
     try_checked();
     try_many_steps();
+    try_bindings();
+    try_largest_network();
     try_header(argv[1]);
     try_example(argv[2]);
     printf("C: %u checks, %u failed\n", checks, failures);
