@@ -1,8 +1,9 @@
 //! The worked example: prints the levels of the hall book's names, builds its tables, asks it five
-//! questions and prints the lines that the program `engine` writes for them, and how the chain of
-//! one of them is derived. Then it shows a book that is refused.
+//! questions and prints the lines that the program `engine` writes for them, how the chain of one of
+//! them is derived, and a network in which the chain of another does not bind. Then it shows a book
+//! that is refused.
 
-use rabbitsteel::{inverse, order, role, Derivation, Order, Refusal, Tables};
+use rabbitsteel::{inverse, order, role, Binding, Derivation, Order, Refusal, Tables};
 
 const PART: u8 = role(0);
 const SITS: u8 = role(1);
@@ -44,11 +45,12 @@ fn main() {
     }
 }
 
-/// Prints the levels of a book, its line and its answers, and a derivation.
+/// Prints the levels of a book, its line and its answers, a derivation and a network.
 fn show(book: &[u8]) -> Result<(), Refusal> {
     print_levels(&order(book)?);
     ask_all(&Tables::of(book)?);
-    print_derivation(book, 2)
+    print_derivation(book, 2)?;
+    print_network(book, 1)
 }
 
 /// Prints the steps from the role to the chain of a question.
@@ -60,6 +62,20 @@ fn print_derivation(book: &[u8], number: usize) -> Result<(), Refusal> {
     for step in derivation.steps() {
         let inverse = if step.inverse { "inverse of " } else { "" };
         println!("{number} at {}: {inverse}rule {}", step.place, step.rule);
+    }
+    Ok(())
+}
+
+/// Prints the links of a network that obeys the book and holds the chain without the asked link.
+fn print_network(book: &[u8], number: usize) -> Result<(), Refusal> {
+    let (role, chain) = QUESTIONS[number];
+    if let Binding::Network(network) = Binding::of(book, role, chain)? {
+        for link in network.iter() {
+            println!(
+                "{number} name {} links {} to {}",
+                link.name, link.from, link.to
+            );
+        }
     }
     Ok(())
 }

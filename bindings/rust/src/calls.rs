@@ -84,6 +84,17 @@ unsafe extern "C" {
         steps_len: usize,
         answer: *mut u64,
     ) -> u64;
+
+    fn rabbitsteel_binds(
+        book: *const u8,
+        book_len: usize,
+        role: u8,
+        chain: *const u8,
+        chain_len: usize,
+        network: *mut u8,
+        network_len: usize,
+        answer: *mut u64,
+    ) -> u64;
 }
 
 pub(crate) fn read(book: &[u8]) -> Told {
@@ -239,6 +250,30 @@ pub(crate) fn check_derivation(book: &[u8], role: u8, chain: &[u8], steps: &[u8]
             chain.len(),
             steps.as_ptr(),
             steps.len(),
+            &mut first,
+        )
+    };
+    Told {
+        cause,
+        first,
+        second: 0,
+        third: 0,
+    }
+}
+
+pub(crate) fn binds(book: &[u8], role: u8, chain: &[u8], network: &mut [u8]) -> Told {
+    let mut first = 0;
+    // SAFETY: as in `read`; `network` is borrowed for writing, so it overlaps neither the book nor
+    // the chain.
+    let cause = unsafe {
+        rabbitsteel_binds(
+            book.as_ptr(),
+            book.len(),
+            role,
+            chain.as_ptr(),
+            chain.len(),
+            network.as_mut_ptr(),
+            network.len(),
             &mut first,
         )
     };

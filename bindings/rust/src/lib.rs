@@ -3,7 +3,9 @@
 //! A book holds rules over links, such as "part sits to sits": a part of what sits in a hall sits
 //! there too. The engine reads a book, checks that its rules have a regular order and how deep it
 //! is, builds tables and answers whether a chain of links is derived from a role. It writes down
-//! how a chain is derived, and checks such a derivation.
+//! how a chain is derived, and checks such a derivation. And it answers whether a chain binds a
+//! role: whether the role links the chain's ends in every finite network that obeys the rules; where
+//! it does not, it gives such a network.
 //!
 //! A role byte is twice the name, plus 1 for the inverse; [`role`] and [`inverse`] make them. The
 //! calls keep no state and take no more memory than is lent to them, so they may run in several
@@ -13,7 +15,7 @@
 //! # The hall book
 //!
 //! ```
-//! use rabbitsteel::{inverse, order, role, Cause, Counts, Derivation, Step, Tables};
+//! use rabbitsteel::{inverse, order, role, Binding, Cause, Counts, Derivation, Step, Tables};
 //!
 //! const PART: u8 = role(0);
 //! const SITS: u8 = role(1);
@@ -45,6 +47,12 @@
 //! assert_eq!(steps[0], Step { place: 0, rule: 2, inverse: false });
 //! assert_eq!(steps[1], Step { place: 0, rule: 1, inverse: false });
 //!
+//! // Places 0 to 3, with sits from 0 to 1, part from 1 to 2 and let from 2 to 3, and no due.
+//! let binding = Binding::of(&book, DUE, &[SITS, PART, LET])?;
+//! let network = binding.network().expect("it does not bind");
+//! assert!(network.links(1, 0, 1) && !network.links(3, 0, 3));
+//! assert_eq!(network.iter().count(), 3);
+//!
 //! let refusal = tables.ask(DUE, &[]).unwrap_err();
 //! assert_eq!(refusal.cause, Cause::Chain);
 //! assert_eq!(refusal.to_string(), "refused 13: the chain has 0 or over 1,024 links");
@@ -57,10 +65,12 @@
 #[allow(unsafe_code)]
 mod calls;
 mod derivation;
+mod network;
 mod refusal;
 mod tables;
 
 pub use derivation::{Derivation, Step};
+pub use network::{Binding, Link, Network};
 pub use refusal::{Cause, Refusal};
 pub use tables::Tables;
 
@@ -86,6 +96,10 @@ pub const DERIVED_MAX: usize = 16;
 pub const STEPS_MAX: usize = 4096;
 /// So many bytes have to be lent for the steps of a derivation.
 pub const STEPS_LEN: usize = 4 * STEPS_MAX;
+/// The most links of a chain that is asked whether it binds a role.
+pub const BINDS_MAX: usize = 16;
+/// So many bytes suffice for the network of every book and chain.
+pub const NETWORK_LEN: usize = network_len(NAMES_MAX, BINDS_MAX);
 /// The label of a silent move. Labels below it are role bytes.
 pub const SILENT: u16 = 128;
 
@@ -102,6 +116,12 @@ pub const fn role(name: u8) -> u8 {
 /// The inverse of a role byte.
 pub const fn inverse(role: u8) -> u8 {
     role ^ 1
+}
+
+/// The bytes of a network, for so many names and a chain of so many links: one for each name, place
+/// from and place to, with a place more than links.
+pub const fn network_len(names: usize, links: usize) -> usize {
+    names * (links + 1) * (links + 1)
 }
 
 /// What a book says of itself.
@@ -252,6 +272,21 @@ pub fn check_derivation(
     steps: &[u8],
 ) -> Result<bool, Refusal> {
     let [answer, ..] = accepted(calls::check_derivation(book, role, chain, steps))?;
+    Ok(answer == 1)
+}
+
+/// Whether the chain binds the role: causes 1 to 8 and 13 to 16.
+///
+/// It does where in every finite network that obeys the book's rules and holds the chain, from one
+/// place to another or back to itself, the role links the chain's ends. A derived chain binds; not
+/// every chain that binds is derived. The book may have any number of states.
+///
+/// Where the chain does not bind, a network that shows it is written over the first
+/// [`network_len`] bytes, and the bytes behind it keep their values; where it does, or something is
+/// refused, all do. So many bytes have to be lent, whatever the answer; [`NETWORK_LEN`] suffice for
+/// all. [`Binding`] does the same with memory of its own; [`Network::bytes`] says what they mean.
+pub fn binds(book: &[u8], role: u8, chain: &[u8], network: &mut [u8]) -> Result<bool, Refusal> {
+    let [answer, ..] = accepted(calls::binds(book, role, chain, network))?;
     Ok(answer == 1)
 }
 

@@ -4,7 +4,7 @@
 use std::error::Error;
 use std::fmt;
 
-/// Why a book, the memory lent for its tables, a question or a derivation is refused.
+/// Why a book, the memory lent to a call, a question or a derivation is refused.
 ///
 /// The first cause met, in the order of their numbers, is the whole answer; [`Malformed`] and
 /// [`Undeclared`] go rule by rule, and bytes after the last rule come next.
@@ -46,9 +46,9 @@ pub enum Cause {
     Chain = 13,
     /// A role, asked or in the chain, has a name that the book or the tables do not have.
     Role = 14,
-    /// The chain has over 16 links, where a derivation is asked for.
+    /// The chain has over 16 links, where a derivation or a network is asked for.
     Long = 15,
-    /// Fewer than 16,384 bytes are lent for the steps of a derivation.
+    /// Fewer bytes are lent than the steps of a derivation, or a network, need.
     Buffer = 16,
     /// The steps of a derivation are not in fours of bytes: the value is 0. Or a step is
     /// impossible: the value is the number of the first such.
@@ -110,7 +110,7 @@ impl fmt::Display for Cause {
             Cause::Chain => "the chain has 0 or over 1,024 links",
             Cause::Role => "a role of a name that the book or the tables do not have",
             Cause::Long => "the chain has over 16 links",
-            Cause::Buffer => "fewer than 16,384 bytes lent for the steps",
+            Cause::Buffer => "fewer bytes lent than the steps or the network need",
             Cause::Step => "steps not in fours of bytes, or an impossible step",
         })
     }

@@ -12,6 +12,9 @@ book 16 18 3
 4 refused 14
 2 at 0: inverse of rule 2
 2 at 1: inverse of rule 1
+1 name 0 links 1 to 2
+1 name 1 links 0 to 1
+1 name 2 links 2 to 3
 book refused 8 1
 refused 8: no regular order; rule 1 ends the shortest front part without one
 ";

@@ -1,8 +1,9 @@
 //! The package's constants, role bytes, numbers of causes and words, against what is written out here.
 
 use rabbitsteel::{
-    inverse, role, Cause, Counts, Refusal, BOOK_MAX, CHAIN_MAX, DERIVED_MAX, MOVES_LEN, MOVES_MAX,
-    NAMES_MAX, RULES_MAX, SILENT, STATES_MAX, STEPS_LEN, STEPS_MAX,
+    inverse, network_len, role, Cause, Counts, Refusal, BINDS_MAX, BOOK_MAX, CHAIN_MAX,
+    DERIVED_MAX, MOVES_LEN, MOVES_MAX, NAMES_MAX, NETWORK_LEN, RULES_MAX, SILENT, STATES_MAX,
+    STEPS_LEN, STEPS_MAX,
 };
 
 #[test]
@@ -12,6 +13,7 @@ fn largest_sizes() {
     ];
     assert_eq!(sizes, [2568, 64, 256, 2048, 5120, 15360, 1024]);
     assert_eq!([DERIVED_MAX, STEPS_MAX, STEPS_LEN], [16, 4096, 16384]);
+    assert_eq!([BINDS_MAX, NETWORK_LEN], [16, 18496]);
     assert_eq!(SILENT, 128u16);
 }
 
@@ -44,6 +46,13 @@ fn numbers_to_moves() {
     assert_eq!(counts.numbers(), 54);
 }
 
+#[test]
+fn bytes_of_networks() {
+    let lengths =
+        [(1, 1), (4, 3), (64, 1), (64, 16)].map(|(names, links)| network_len(names, links));
+    assert_eq!(lengths, [4, 64, 256, 18496]);
+}
+
 /// Each cause with its number, its words, and what a refusal by it with the value 7 says.
 #[rustfmt::skip]
 const CAUSES: [(Cause, u8, &str, &str); 17] = [
@@ -62,7 +71,7 @@ const CAUSES: [(Cause, u8, &str, &str); 17] = [
     (Cause::Chain, 13, "the chain has 0 or over 1,024 links", ""),
     (Cause::Role, 14, "a role of a name that the book or the tables do not have", ""),
     (Cause::Long, 15, "the chain has over 16 links", ""),
-    (Cause::Buffer, 16, "fewer than 16,384 bytes lent for the steps", ""),
+    (Cause::Buffer, 16, "fewer bytes lent than the steps or the network need", ""),
     (Cause::Step, 17, "steps not in fours of bytes, or an impossible step", "; step 7"),
 ];
 
