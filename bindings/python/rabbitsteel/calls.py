@@ -24,6 +24,7 @@ FUNCTIONS = {
     "derived": (BYTES + WORDS + WORDS + QUESTION, 1),
     "write_derivation": (BYTES + QUESTION + LENT_BYTES, 2),
     "check_derivation": (BYTES + QUESTION + BYTES, 1),
+    "binds": (BYTES + QUESTION + LENT_BYTES, 1),
 }
 
 

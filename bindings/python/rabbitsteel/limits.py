@@ -10,5 +10,7 @@ CHAIN_MAX = 1024  # links of a chain
 DERIVED_MAX = 16  # links of a chain whose derivation is written or checked
 STEPS_MAX = 4096  # steps of a derivation that is written
 STEPS_LEN = 16384  # bytes lent for its steps, four to a step
+BINDS_MAX = 16  # links of a chain that is asked whether it binds a role
+NETWORK_LEN = 18496  # bytes of the largest network: 64 names, 17 places
 
 SILENT = 128  # the label of a silent move; labels below it are role bytes

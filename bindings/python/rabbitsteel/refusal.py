@@ -45,7 +45,7 @@ WORDS = {
     Cause.CHAIN: "the chain has 0 or over 1,024 links",
     Cause.ROLE: "a role of a name that the book or the tables do not have",
     Cause.LONG: "the chain has over 16 links",
-    Cause.BUFFER: "fewer than 16,384 bytes lent for the steps",
+    Cause.BUFFER: "fewer bytes lent than the steps or the network need",
     Cause.STEP: "steps not in fours of bytes, or an impossible step",
 }
 

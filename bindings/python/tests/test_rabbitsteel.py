@@ -20,9 +20,12 @@ sys.path.insert(0, str(PACKAGE))
 
 import rabbitsteel  # noqa: E402
 from rabbitsteel import (  # noqa: E402
+    Binding,
     Cause,
     Derivation,
     Header,
+    Link,
+    Network,
     Order,
     Refused,
     Step,
@@ -50,6 +53,8 @@ def book(names: int, rules: list[tuple[int, list[int]]]) -> bytes:
 HALL = book(4, [(PART, [PART, PART]), (SITS, [PART, SITS]), (DUE, [SITS, LET])])
 CIRCLE = book(2, [(2, [0]), (0, [2])])
 SYMMETRIC = book(1, [(0, [1])])
+SERVES, COVERS = 0, 2
+VAN = book(2, [(COVERS, [SERVES, SERVES + 1, SERVES])])
 # Each name has the one before it on the left of its only rule: levels 1 to 64, and too many states.
 LADDER = book(64, [(2 * name, [2 * name - 2]) for name in range(1, 64)])
 
@@ -91,6 +96,7 @@ class Books(Refusing):
                 self.refused(cause, value, rabbitsteel.derived, data, 255, [])
                 self.refused(cause, value, rabbitsteel.write_derivation, data, 255, [])
                 self.refused(cause, value, rabbitsteel.check_derivation, data, 255, [], b"\0")
+                self.refused(cause, value, rabbitsteel.binds, data, 255, [])
 
     def test_no_order(self) -> None:
         self.assertEqual(rabbitsteel.read(CIRCLE), Header(2, 2))
@@ -98,6 +104,7 @@ class Books(Refusing):
         self.refused(Cause.NO_ORDER, 1, Tables.of, CIRCLE)
         self.refused(Cause.NO_ORDER, 1, rabbitsteel.write_derivation, CIRCLE, 0, [0])
         self.refused(Cause.NO_ORDER, 1, rabbitsteel.check_derivation, CIRCLE, 0, [0], b"")
+        self.refused(Cause.NO_ORDER, 1, rabbitsteel.binds, CIRCLE, 0, [0])
 
 
 class Questions(Refusing):
@@ -209,6 +216,69 @@ class Derivations(Refusing):
         self.refused(Cause.STEP, 80_000, rabbitsteel.check_derivation, SYMMETRIC, 0, [0], steps + bytes([0, 0, 0, 1]))
 
 
+class Bindings(Refusing):
+    def links(self, data: bytes, asked: int, chain: list[int]) -> list[tuple[int, int, int]]:
+        """The links of the network of a chain that does not bind, asked one by one as well."""
+        network = rabbitsteel.binds(data, asked, chain).network
+        assert network is not None
+        self.assertEqual((network.places, len(network.data)), (len(chain) + 1, data[5] * (len(chain) + 1) ** 2))
+        found = list(network)
+        places = range(-1, network.places + 1)
+        every = [Link(name, start, end) for name in range(-1, data[5] + 1) for start in places for end in places]
+        self.assertEqual([link for link in every if network.links(*link)], found)
+        return [tuple(link) for link in found]
+
+    def test_out_and_back(self) -> None:
+        self.assertEqual(rabbitsteel.binds(VAN, COVERS, [SERVES]), Binding())
+        self.assertIsNone(rabbitsteel.write_derivation(VAN, COVERS, [SERVES]))
+        self.assertTrue(rabbitsteel.binds(VAN, inverse(COVERS), [inverse(SERVES)]))
+        self.assertFalse(rabbitsteel.binds(VAN, COVERS, [inverse(SERVES)]))
+        self.assertEqual(self.links(VAN, COVERS, [inverse(SERVES)]), [(0, 1, 0), (1, 1, 0)])
+        self.assertEqual(self.links(VAN, COVERS, [0, 0]), [(0, 0, 1), (0, 1, 2), (1, 0, 1), (1, 1, 2)])
+
+    def test_link_of_a_place_to_itself(self) -> None:
+        itself = book(3, [(4, [3, 2]), (0, [2, 4])])
+        self.assertTrue(rabbitsteel.binds(itself, 0, [2]))
+        self.assertEqual(self.links(itself, 4, [2]), [(0, 0, 1), (1, 0, 1), (2, 1, 1)])
+
+    def test_an_inverse_asked_does_not_turn_the_network(self) -> None:
+        unturned = Binding(Network(2, bytes([0, 1, 0, 0, 0, 0, 0, 0])))
+        self.assertEqual(rabbitsteel.binds(book(2, []), 3, [0]), unturned)
+        self.assertEqual(rabbitsteel.binds(book(2, []), 3, [3]), Binding(None))
+
+    def test_hall(self) -> None:
+        self.assertTrue(rabbitsteel.binds(HALL, DUE, [PART, PART, SITS, LET]))
+        self.assertTrue(rabbitsteel.binds(HALL, PART, bytes(16)))
+        self.assertEqual(self.links(HALL, DUE, [SITS, PART, LET]), [(0, 1, 2), (1, 0, 1), (2, 2, 3)])
+        parts = [(0, start, end) for start in range(17) for end in range(start + 1, 17)]
+        self.assertEqual(self.links(HALL, SITS, [PART] * 16), parts)
+
+    def test_books_without_tables(self) -> None:
+        self.assertTrue(rabbitsteel.binds(LADDER, 127, [1]))
+        every = [(name, place, place + 1) for name in range(64) for place in range(16)]
+        self.assertEqual(self.links(LADDER, 126, [0] * 16), every)
+
+    def test_refused_questions(self) -> None:
+        for asked, chain, cause in [
+            (UNKNOWN, [], Cause.CHAIN),
+            (UNKNOWN, bytes(1025), Cause.CHAIN),
+            (UNKNOWN, bytes(17), Cause.ROLE),
+            (PART, [PART, 255], Cause.ROLE),
+            (PART, bytes(17), Cause.LONG),
+            (PART, bytes(1024), Cause.LONG),
+        ]:
+            self.refused(cause, 0, rabbitsteel.binds, HALL, asked, chain)
+
+    def test_too_few_bytes_lent(self) -> None:
+        for lent, cause in [(0, 16), (15, 16), (16, None)]:
+            network = calls.lent_bytes(lent)
+            if cause:
+                self.refused(cause, 0, calls.call, "binds", HALL, DUE, bytes([PART]), network)
+                self.assertEqual(bytes(network), bytes(lent))
+            else:
+                self.assertEqual(calls.call("binds", HALL, DUE, bytes([PART]), network), [0])
+
+
 class Arguments(unittest.TestCase):
     def test_role_bytes(self) -> None:
         self.assertEqual([role(0), role(63), inverse(role(63)), inverse(127)], [0, 126, 127, 126])
@@ -222,6 +292,7 @@ class Arguments(unittest.TestCase):
     def test_numbers_that_do_not_fit_are_not_cut(self) -> None:
         for asked, chain in [(256, [0]), (-1, [0]), (0, [256]), (0, [-1])]:
             self.assertRaises(ValueError, rabbitsteel.write_derivation, HALL, asked, chain)
+            self.assertRaises(ValueError, rabbitsteel.binds, HALL, asked, chain)
             self.assertRaises(ValueError, rabbitsteel.ask, [0], [], asked, chain)
         self.assertRaises(OverflowError, rabbitsteel.ask, [65536], [], 0, [0])
         self.assertRaises(OverflowError, rabbitsteel.ask, [0], [0, 0, -1], 0, [0])
@@ -318,7 +389,7 @@ class Archive(unittest.TestCase):
 
 class Page(unittest.TestCase):
     def test_example(self) -> None:
-        self.assertEqual(doctest.testmod(rabbitsteel), (0, 8))
+        self.assertEqual(doctest.testmod(rabbitsteel), (0, 10))
 
 
 if __name__ == "__main__":
