@@ -1,4 +1,4 @@
-"""Tests of tools/book: the text form, book.rlb, OWL, questions and derivations. Run: python3 tools/test_book.py
+"""Tests of tools/book: the text form, book.rlb, OWL, questions and reasons. Run: python3 tools/test_book.py
 
 Questions are put to the real engine (RABBITSTEEL_ENGINE, else target/bin/engine) and to the real archive
 (RABBITSTEEL_LIB_DIR, else target/staticlib); without them those tests fail.
@@ -15,6 +15,7 @@ import sys
 import tempfile
 import textwrap
 import unittest
+import xml.etree.ElementTree as ElementTree
 from pathlib import Path
 from typing import NamedTuple
 from unittest import mock
@@ -22,16 +23,17 @@ from unittest import mock
 TOOLS = Path(__file__).resolve().parent
 sys.path.insert(0, str(TOOLS))
 
-from booktext import derivations, engine, file_format, owl_reader, owl_writer, text_form  # noqa: E402
+from booktext import engine, explanations, file_format, owl_reader, owl_writer, text_form, walks  # noqa: E402
 from booktext.causes import WORDS, Refusal, book_words  # noqa: E402
 from booktext.command_line import main  # noqa: E402
 from booktext.commands import answer_words  # noqa: E402
 from booktext.faults import Fault  # noqa: E402
+from booktext.library import rabbitsteel  # noqa: E402
 from booktext.model import Book, Role, Rule  # noqa: E402
 from booktext.names import generated, trouble  # noqa: E402
 from booktext.questions import Question  # noqa: E402
 from booktext.source import Source  # noqa: E402
-from rabbitsteel import Refused, Step, archive  # noqa: E402
+from rabbitsteel import Refused, archive  # noqa: E402
 
 HALL_TEXT = """\
 # The hall book.
@@ -66,7 +68,7 @@ CAUSES = {
     13: "the chain has no link or more than 1,024",
     14: "a role that the book or the tables do not have",
     15: "the chain has more than 16 links",
-    16: "the memory lent for the steps is too short",
+    16: "the memory lent for the steps or the network is too short",
     17: "the steps are not in fours of bytes, or one is impossible",
 }
 
@@ -324,7 +326,7 @@ class Causes(unittest.TestCase):
                 self.assertEqual(book_words(Refusal(cause, 1), rules), words + named)
 
     def test_refused_questions(self) -> None:
-        for cause in (12, 13, 14, 15):
+        for cause in (12, 13, 14, 15, 16):
             self.assertEqual(answer_words(Refusal(cause)), f"refused {cause}: {CAUSES[cause]}")
 
 
@@ -649,7 +651,7 @@ class Ask(WithEngine):
     def test_long_chains(self) -> None:
         self.write("b.txt", "names p\np p -> p\n")
         refused = f"refused 13: {NO_LINK}"
-        for links, answer in [(300, "yes"), (1024, "yes"), (1025, refused), (65535, refused)]:
+        for links, answer in [(16, "yes"), (1025, refused), (65535, refused)]:
             question = "p:" + " p" * links
             told = self.ask("b.txt", stdin=f"{question}\np: p\n").output
             self.assertEqual(told, f"{question}: {answer}\np: p: yes\n")
@@ -696,6 +698,68 @@ class Ask(WithEngine):
             self.assertEqual(engine.ask(ENGINE, file_format.encode(book), []).refusal, Refusal(8, 1))
 
 
+class AskDerived(InFolder):
+    """Each test asks the real archive whether chains are derived."""
+
+    def ask(self, *arguments: str, stdin: str = "") -> Run:
+        return run("ask", "--derived", *arguments, stdin=stdin)
+
+    def test_hall_book(self) -> None:
+        self.write("hall.txt", HALL_TEXT)
+        answers = (
+            "due: part part sits let: yes\ndue: sits part let: no\ninv due: inv let inv sits inv part: yes\n"
+            f"due: (no link): refused 13: {NO_LINK}\ndue: due: yes\n"
+        )
+        self.assertEqual(self.ask("hall.txt", *FIVE), (1, answers, ""))
+        self.assertEqual(self.ask("hall.txt", stdin="\n".join(FIVE)), (1, answers, ""))
+        self.assertEqual(self.ask("hall.txt"), (0, "book: 16 states, 18 moves, depth 3\n", ""))
+
+    def test_a_chain_that_binds_and_is_not_derived(self) -> None:
+        self.write("van.txt", VAN_TEXT)
+        told = self.ask("van.txt", "covers: serves", "covers: serves inv serves serves")
+        self.assertEqual(told, (0, "covers: serves: no\ncovers: serves inv serves serves: yes\n", ""))
+
+    def test_long_chains(self) -> None:
+        self.write("b.txt", "names p q\np p -> p\n")
+        refused = f"refused 13: {NO_LINK}"
+        for links, answer in [(16, "yes"), (17, "yes"), (1024, "yes"), (1025, refused), (65535, refused)]:
+            question = "p:" + " p" * links
+            told = self.ask("b.txt", stdin=f"{question}\nq: p p\n").output
+            self.assertEqual(told, f"{question}: {answer}\nq: p p: no\n")
+
+    def test_refused_books(self) -> None:
+        large = "".join(f"{left} " * 8 + f"-> {right}\n" for left, right in ("rs", "st", "tu", "uv"))
+        for rules, told in [
+            ("s -> r\nr -> s\n", f"8 1: {CAUSES[8]}: rule 1, r -> s"),
+            ("inv r -> r\nr -> inv r\n", f"7 1: {CAUSES[7]}: rule 1, r -> inv r"),
+            (large, f"9 0: {CAUSES[9]}"),
+        ]:
+            self.write("b.txt", f"names r s t u v\n{rules}")
+            self.assertEqual(self.ask("b.txt", "r: s"), (1, f"book refused {told}\n", ""))
+
+    def test_damaged_bytes(self) -> None:
+        for data, cause, value in DAMAGED:
+            Path("book.rlb").write_bytes(data)
+            told = f"book refused {cause} {value}: {damage(cause, value)}\n"
+            self.assertEqual(self.ask(".", "r0: r0"), (1, told, ""))
+
+    def test_wrong_questions_do_not_stop_the_others(self) -> None:
+        self.write("hall.txt", HALL_TEXT)
+        told = self.ask("hall.txt", "due: sits let", "due: lit", "due: let")
+        wrong = "question:2:6: unknown name 'lit'\n"
+        self.assertEqual(told, (1, "due: sits let: yes\ndue: let: no\n", wrong))
+
+    def test_the_program_is_not_looked_for(self) -> None:
+        self.write("hall.txt", HALL_TEXT)
+        os.environ[engine.VARIABLE] = "/none"
+        self.assertEqual(self.ask("hall.txt", "due: due"), (0, "due: due: yes\n", ""))
+
+
+VAN_TEXT = """\
+names serves covers
+serves inv serves serves -> covers   # out, back and out
+"""
+
 # How a chain is derived: the question, the rules, and what is shown.
 WHYS = [
     ("due: sits let", "", "  due\n  [sits let]  by rule 2, sits let -> due\n"),
@@ -713,6 +777,27 @@ WHYS = [
         "  inv due\n  [sits part]  by inverse of rule 3, inv part inv sits -> due\n",
     ),
 ]
+
+
+# What is shown of chains that do not bind.
+NOES = [
+    (
+        "due: sits part let",
+        "  the chain over places: 0 sits 1 part 2 let 3\n  these links obey the rules, without due from 0 to 3:\n"
+        "    part: 1-2\n    sits: 0-1\n    let: 2-3\n",
+    ),
+    (
+        "inv due: inv let inv part inv part",
+        "  the chain over places: 0 inv let 1 inv part 2 inv part 3\n"
+        "  these links obey the rules, without inv due from 0 to 3:\n    part: 2-1, 3-1, 3-2\n    let: 1-0\n",
+    ),
+    (
+        "due: let",
+        "  the chain over places: 0 let 1\n  these links obey the rules, without due from 0 to 1:\n    let: 0-1\n",
+    ),
+]
+NO_DUE = f"due: let: no\n{NOES[2][1]}"
+VAN_STEP = "[serves inv serves serves]  by rule 0, serves inv serves serves -> covers"
 
 
 class Why(InFolder):
@@ -738,7 +823,49 @@ class Why(InFolder):
 
     def test_no(self) -> None:
         self.write("hall.txt", HALL_TEXT)
-        self.assertEqual(self.why("hall.txt", "due: sits part let"), (0, "due: sits part let: no\n", ""))
+        for question, shown in NOES:
+            with self.subTest(question):
+                self.assertEqual(self.why("hall.txt", question), (0, f"{question}: no\n{shown}", ""))
+
+    def test_out_and_back(self) -> None:
+        self.write("van.txt", VAN_TEXT + "covers -> serves2\n".replace("serves2", "inv covers"))
+        self.write("van.txt", VAN_TEXT)
+        for question, walked in [
+            ("covers: serves", "covers\n  [serves inv serves serves]  by rule 0"),
+            ("inv covers: inv serves", "inv covers\n  [inv serves serves inv serves]  by inverse of rule 0"),
+        ]:
+            told = (
+                f"{question}: yes\n  binds, not derived: a walk to and fro along it is, over places 0 1 0 1\n"
+                f"  {walked}, serves inv serves serves -> covers\n"
+            )
+            self.assertEqual(self.why("van.txt", question), (0, told, ""))
+        told = self.why("van.txt", "covers: serves inv serves serves").output
+        self.assertEqual(told.splitlines()[1:], ["  covers", f"  {VAN_STEP}"])
+
+    def test_walks_along_several_links(self) -> None:
+        rules = "s t inv t inv s s t -> r\ninv s s -> u\ns u -> w\n"
+        self.write("b.txt", f"names r s t u w\n{rules}")
+        for question, places in [
+            ("r: s t", "0 1 2 1 0 1 2"),
+            ("inv r: inv t inv s", "0 1 2 1 0 1 2"),
+            ("w: s", "0 1 0 1"),
+            ("inv w: inv s", "0 1 0 1"),
+        ]:
+            first, second, *steps = self.why("b.txt", question).output.splitlines()
+            self.assertEqual(first, f"{question}: yes")
+            self.assertEqual(second, f"  binds, not derived: a walk to and fro along it is, over places {places}")
+            self.assertEqual(steps[0], f"  {question.partition(':')[0]}")
+
+    def test_no_walk_at_hand(self) -> None:
+        names = [f"n{number}" for number in range(60)]
+        ladder = "".join(f"{low} -> {high}\n" for low, high in zip(names, names[1:]))
+        self.write("large.txt", f"names v s {' '.join(names)}\ns inv s s -> v\n{ladder}")
+        told = "v: s: yes\n  binds, not derived: v links its ends in every network that obeys the rules\n"
+        self.assertEqual(self.why("large.txt", "v: s"), (0, told, ""))
+        # A walk of 27 links, and a derivation has at most 16.
+        self.write("long.txt", "names r s t u\ns inv s s -> t\nt inv t t -> u\nu inv u u -> r\n")
+        told = "r: s: yes\n  binds, not derived: r links its ends in every network that obeys the rules\n"
+        self.assertEqual(self.why("long.txt", "r: s"), (0, told, ""))
 
     def test_refused_questions(self) -> None:
         self.write("hall.txt", HALL_TEXT)
@@ -746,7 +873,7 @@ class Why(InFolder):
             question = f"part: {'part ' * links}".strip()
             told = self.why("hall.txt", question, "due: let")
             self.assertEqual((told.status, told.errors), (1, ""))
-            first, second = told.output.splitlines()
+            first, second, *_ = told.output.splitlines()
             self.assertEqual(first.rpartition(": refused")[2], f" {cause}: {CAUSES[cause]}")
             self.assertEqual(second, "due: let: no")
         self.assertEqual(self.why("hall.txt", f"part: {'part ' * 16}").status, 0)
@@ -783,8 +910,9 @@ class Why(InFolder):
 
     def test_standard_input_and_wrong_questions(self) -> None:
         self.write("hall.txt", HALL_TEXT)
-        told = self.why("hall.txt", stdin="due: let\ndue: lit\nsits: let\n")
-        self.assertEqual(told, (1, "due: let: no\nsits: let: no\n", "stdin:2:6: unknown name 'lit'\n"))
+        told = self.why("hall.txt", stdin="due: let\ndue: lit\ndue: sits let\n")
+        shown = f"{NO_DUE}due: sits let: yes\n{WHYS[0][2]}"
+        self.assertEqual(told, (1, shown, "stdin:2:6: unknown name 'lit'\n"))
 
     def test_no_archive(self) -> None:
         self.write("hall.txt", HALL_TEXT)
@@ -795,13 +923,134 @@ class Why(InFolder):
         self.assertIn("/none/librabbitsteel.a: no archive here; make it with `rt staticlib rabbitsteel`", told.stderr)
 
     def test_only_what_the_checker_accepts_is_shown(self) -> None:
-        names = ("part", "sits", "let", "due")
+        book = read_text(HALL_TEXT)
         question = Question(Role("due"), (Role("sits"), Role("let")))
-        with mock.patch.object(derivations.rabbitsteel, "check_derivation", return_value=False):
-            self.assertRaisesRegex(Fault, "does not accept", derivations.explain, HALL_BYTES, names, question)
-        with mock.patch.object(derivations.rabbitsteel, "check_derivation", side_effect=Refused(17, 3)):
-            self.assertEqual(derivations.explain(HALL_BYTES, names, question).answer, Refusal(17, 3))
-        self.assertEqual(derivations.explain(HALL_BYTES, names, question), ("yes", (Step(0, 2, False),)))
+        with mock.patch.object(rabbitsteel, "check_derivation", return_value=False):
+            self.assertRaisesRegex(Fault, "does not accept", explanations.explain, HALL_BYTES, book, question)
+        with mock.patch.object(rabbitsteel, "check_derivation", side_effect=Refused(17, 3)):
+            self.assertEqual(explanations.explain(HALL_BYTES, book, question).answer, Refusal(17, 3))
+        explained = explanations.explain(HALL_BYTES, book, question)
+        self.assertEqual(explained, ("yes", ["due", "[sits let]  by rule 2, sits let -> due"], None))
+
+    def test_walks_are_checked_too(self) -> None:
+        book = read_text(VAN_TEXT)
+        question = Question(Role("covers"), (Role("serves"),))
+        with mock.patch.object(walks, "shortest", return_value=walks.Walk((0, 1), bytes([0]))):
+            _, (line,), _ = explanations.explain(file_format.encode(book), book, question)
+        self.assertEqual(line, "binds, not derived: covers links its ends in every network that obeys the rules")
+
+
+class Walks(InFolder):
+    def test_of_random_books(self) -> None:
+        """Where a chain binds and is not derived, a walk is found; it spells what it says, and the role derives it."""
+        rng, found = random.Random(7), 0
+        for _ in range(800):
+            names = ("a", "b", "c")
+            left = tuple(Role(rng.choice("ab"), rng.random() < 0.5) for _ in range(rng.randint(2, 5)))
+            book = Book(names, (Rule(left, Role("c")), Rule((Role("a", rng.random() < 0.5),), Role("b"))))
+            data = file_format.encode(book)
+            chain = bytes(rng.randrange(4) for _ in range(rng.randint(1, 3)))
+            for role in (4, 5):
+                if not rabbitsteel.binds(data, role, chain) or rabbitsteel.derived(data, role, chain):
+                    continue
+                walk = walks.shortest(data, role, chain)
+                assert walk is not None
+                self.assertEqual((walk.places[0], walk.places[-1]), (0, len(chain)))
+                for link, here, there in zip(walk.chain, walk.places, walk.places[1:], strict=False):
+                    self.assertEqual(link, chain[here] if there == here + 1 else chain[here - 1] ^ 1)
+                    self.assertEqual(abs(there - here), 1)
+                self.assertTrue(rabbitsteel.derived(data, role, walk.chain))
+                found += 1
+        self.assertGreater(found, 20)
+
+    def test_none(self) -> None:
+        self.assertIsNone(walks.shortest(HALL_BYTES, 6, bytes([2, 0, 4])))
+        self.assertIsNone(walks.shortest(HALL_BYTES[:7], 6, bytes([2])))
+
+
+class Pictures(InFolder):
+    """Networks drawn: each test asks the real archive."""
+
+    def setUp(self) -> None:
+        super().setUp()
+        rules = "serves inv serves serves -> covers\ninv serves serves -> near\n"
+        self.write("van.txt", f"names serves covers near\n{rules}")
+
+    def elements(self, svg: str, kind: str) -> list[ElementTree.Element]:
+        return list(ElementTree.fromstring(svg).iter(f"{{http://www.w3.org/2000/svg}}{kind}"))
+
+    def words(self, svg: str) -> list[str]:
+        return ["".join(text.itertext()) for text in self.elements(svg, "text")]
+
+    def test_svg(self) -> None:
+        self.assertEqual(run("why", "van.txt", "covers: serves inv serves", "--svg", "no.svg").status, 0)
+        svg = Path("no.svg").read_text()
+        forced = ["covers", "near", "covers"]
+        labels = ["covers: serves inv serves: no", "serves", "serves", *forced, "no covers", "0", "1", "2"]
+        self.assertEqual(self.words(svg), labels)
+        self.assertEqual(len(self.elements(svg, "circle")), 3)
+        # The second link of the chain leads back.
+        ends = [(line.get("x1"), line.get("x2")) for line in self.elements(svg, "line")]
+        self.assertEqual(ends, [("63", "127"), ("217", "153")])
+        dashed = [path for path in self.elements(svg, "path") if path.get("stroke-dasharray")]
+        self.assertEqual(len(dashed), 1)
+
+    def test_dot(self) -> None:
+        told = run("why", "van.txt", "inv near: inv serves", "--dot", "-")
+        self.assertEqual((told.status, told.errors), (0, ""))
+        dot = told.output[told.output.index("digraph") :].splitlines()
+        self.assertEqual(dot[:3] + dot[-2:], ["digraph {", "  rankdir=LR", "  node [shape=circle]", "  }", "}"])
+        arrows = re.findall(r'"(\d+)\.(\d+)" -> "\1\.(\d+)" \[label="([^"]*)", (penwidth|color|style)', "\n".join(dot))
+        self.assertEqual(
+            arrows,
+            [
+                ("0", "1", "0", "serves", "penwidth"),
+                ("0", "0", "0", "near", "color"),
+                ("0", "1", "0", "covers", "color"),
+                ("0", "0", "1", "no inv near", "color"),
+            ],
+        )
+        self.assertIn('    label="inv near: inv serves: no"', dot)
+
+    def test_several_networks_in_one_picture(self) -> None:
+        questions = ["near: serves", "covers: serves", "near: serves serves", "near: covers"]
+        run("why", "van.txt", *questions, "--svg", "no.svg", "--dot", "no.dot")
+        noes = [f"{question}: no" for question in questions if question != "covers: serves"]
+        self.assertEqual([word for word in self.words(Path("no.svg").read_text()) if word in noes], noes)
+        self.assertEqual(re.findall(r'label="(.*: no)"', Path("no.dot").read_text()), noes)
+
+    def test_nothing_to_draw(self) -> None:
+        for option in ("--svg", "--dot"):
+            told = run("why", "van.txt", "covers: serves", option, "no.picture")
+            self.assertEqual(told.errors, "no.picture: not drawn, since no question was answered by no\n")
+            self.assertEqual(told.status, 1)
+            self.assertTrue(told.output.startswith("covers: serves: yes\n"))
+            self.assertFalse(Path("no.picture").exists())
+        told = run("why", "van.txt", "covers: serves", "near: lit", "--svg", "no.svg").errors
+        self.assertEqual(told.splitlines()[0], "question:2:7: unknown name 'lit'")
+        self.assertEqual(run("why", "van.txt", "near: serves", "--svg", "none/no.svg").status, 1)
+
+    def test_many_names_on_an_arrow(self) -> None:
+        names = [f"n{number}" for number in range(64)]
+        ladder = "".join(f"{low} -> {high}\n" for low, high in zip(names, names[1:]))
+        self.write("b.txt", f"names {' '.join(names)}\n{ladder}")
+        run("why", "b.txt", "n63: n0 n0", "--svg", "no.svg", "--dot", "no.dot")
+        svg = Path("no.svg").read_text()
+        (first, second) = (title.text for title in self.elements(svg, "title"))
+        self.assertEqual((first, second), (", ".join(names[1:]), ", ".join(names[1:])))
+        self.assertIn("n1, n2, n3 +60</text>", svg)
+        self.assertIn(f'label="{", ".join(names[1:])}"', Path("no.dot").read_text())
+
+    def test_the_largest_network(self) -> None:
+        self.write("b.txt", "names p q\np p -> p\ninv p -> p\n")
+        told = run("why", "b.txt", f"q: {'p ' * 16}", "--svg", "no.svg", "--dot", "no.dot")
+        pairs = ", ".join(f"{start}-{end}" for start in range(17) for end in range(17))
+        self.assertEqual(told.output.splitlines()[-1], f"    p: {pairs}")
+        svg = Path("no.svg").read_text()
+        self.assertEqual(len(self.elements(svg, "circle")), 17)
+        # All pairs but the chain's own links, and the link that is missing; the three heads are paths too.
+        self.assertEqual(len(self.elements(svg, "path")), 17 * 17 - 16 + 1 + 3)
+        self.assertEqual(Path("no.dot").read_text().count(" -> "), 17 * 17 + 1)
 
 
 class Page(WithEngine):
@@ -814,6 +1063,7 @@ class Page(WithEngine):
         self.blocks = [textwrap.dedent(block.lstrip("\n")) for block in indented]
         self.write("hall.txt", self.blocks[0])
         self.write("pair.txt", "names part whole\npart -> inv whole\ninv whole -> part\n")
+        self.write("van.txt", VAN_TEXT)
         declared = "Declaration(Class(:Hall))\nDeclaration(ObjectProperty(:part))\n"
         axioms = "TransitiveObjectProperty(:part)\nSymmetricObjectProperty(:near)\nFunctionalObjectProperty(:near)\n"
         self.write("halls.ofn", f"Prefix(:=<http://x.org/#>)\nOntology(<http://x.org/>\n{declared}{axioms})\n")
@@ -826,7 +1076,7 @@ class Page(WithEngine):
                 told = run(*shlex.split(command))
                 self.assertEqual(told.errors + told.output, shown, command)
                 tried += 1
-        self.assertEqual(tried, 8)
+        self.assertEqual(tried, 10)
 
 
 class EngineRun(InFolder):
@@ -841,8 +1091,8 @@ class EngineRun(InFolder):
             self.assertRaisesRegex(Fault, "/none/other: no engine here", engine.find, None)
 
     def test_lines_taken_apart(self) -> None:
-        said = engine.read_transcript(ENGINE, ["book 16 18 3", "0 yes", "1 refused 13", "2 no"], 3)
-        self.assertEqual(said, (None, 16, 18, 3, ["yes", Refusal(13), "no"]))
+        said = engine.read_transcript(ENGINE, ["book 16 18 3", "0 yes", "1 refused 13", "2 no", "3 refused 15"], 4)
+        self.assertEqual(said, (None, 16, 18, 3, ["yes", Refusal(13), "no", Refusal(15)]))
         said = engine.read_transcript(ENGINE, ["book refused 8 1"], 3)
         self.assertEqual(said, (Refusal(8, 1), 0, 0, 0, []))
 
@@ -858,6 +1108,7 @@ class EngineRun(InFolder):
             ["book 2 1 1", "1 yes"],
             ["book 2 1 1", "0 cut"],
             ["book 2 1 1", "0 yes", "1 yes"],
+            ["book 2 1 1", "0 refused 16"],
             ["book refused 15 0"],
             ["book refused 8 0", "0 yes"],
         ):
@@ -876,7 +1127,9 @@ RUNS = [
     (["ask", "hall.txt", "due: due", "due:"], 1, f"due: due: yes\ndue: (no link): refused 13: {CAUSES[13]}\n", ""),
     (["ask", "hall.txt", "due: lit"], 1, "", "question:1:6: unknown name 'lit'\n"),
     (["ask", "circle.txt", "a: b"], 1, f"book refused 8 1: {CAUSES[8]}: rule 1, b -> a\n", ""),
-    (["why", "hall.txt", "due: sits let", "due: let"], 0, f"due: sits let: yes\n{WHYS[0][2]}due: let: no\n", ""),
+    (["ask", "hall.txt", "--derived", "due: sits let", "due: let"], 0, "due: sits let: yes\ndue: let: no\n", ""),
+    (["why", "hall.txt", "due: sits let", "due: let"], 0, f"due: sits let: yes\n{WHYS[0][2]}{NO_DUE}", ""),
+    (["why", "hall.txt", "due: let", "--svg", "no.svg"], 0, NO_DUE, ""),
     (["why", "hall.txt", "due:"], 1, f"due: (no link): refused 13: {CAUSES[13]}\n", ""),
     (["why", "circle.txt", "a: b"], 1, f"book refused 8 1: {CAUSES[8]}: rule 1, b -> a\n", ""),
     (["to-owl", "wrong.txt"], 1, "", "wrong.txt:2:1: unknown name 'b'\n"),
@@ -902,7 +1155,7 @@ class ExitStatus(WithEngine):
                 self.assertEqual((told.returncode, told.stdout, told.stderr), (status, output, errors))
 
     def test_wrong_commands(self) -> None:
-        for words in ([], ["fold"], ["pack"], ["ask", "a", "--fast"]):
+        for words in ([], ["fold"], ["pack"], ["ask", "a", "--fast"], ["ask", "a", "--engine", "b", "--derived"]):
             with self.subTest(words):
                 told = subprocess.run([TOOLS / "book", *words], capture_output=True, text=True, check=False)
                 self.assertEqual((told.returncode, told.stdout), (2, ""))
@@ -917,7 +1170,8 @@ class Script(unittest.TestCase):
 
     def test_wrong_commands(self) -> None:
         unknown = ["ask", "a", "--fast"], ["why", "a", "--engine", "b"], ["to-owl", "a", "--skip"]
-        for words in ([], ["fold"], ["pack"], ["why"], ["pack", "a", "b"], *unknown):
+        wrong = ["why", "a", "--derived"], ["why", "a", "--svg"], ["ask", "a", "--engine", "b", "--derived"]
+        for words in ([], ["fold"], ["pack"], ["why"], ["pack", "a", "b"], *unknown, *wrong):
             self.assertEqual(self.status(words), 2, words)
 
     def status(self, words: list[str]) -> object:

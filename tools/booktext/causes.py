@@ -29,7 +29,7 @@ WORDS = {
     13: "the chain has no link or more than 1,024",
     14: "a role that the book or the tables do not have",
     15: "the chain has more than 16 links",
-    16: "the memory lent for the steps is too short",
+    16: "the memory lent for the steps or the network is too short",
     17: "the steps are not in fours of bytes, or one is impossible",
 }
 

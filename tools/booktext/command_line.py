@@ -11,8 +11,9 @@ DESCRIPTION = """\
 A book holds rules over relations, such as "what is part of something that
 sits in a hall sits there too". This tool translates a book between readable
 text, the file book.rlb and OWL, puts questions to the proved engine, and
-shows how a chain is derived. It only translates: the engine decides every
-answer, writes and checks every derivation, and says what is refused."""
+tells why a chain binds a role or does not. It only translates: the engine
+decides every answer, writes and checks every derivation, gives every network,
+and says what is refused."""
 
 EXAMPLES = """\
 a book as text, hall.txt:
@@ -27,7 +28,9 @@ examples:
   tools/book ask hall.txt 'due: part part sits let'
   tools/book ask hall.txt 'inv due: inv let inv sits inv part' 'due: sits'
   tools/book ask hall < questions.txt              one question a line
+  tools/book ask hall.txt --derived 'due: part sits let'
   tools/book why hall.txt 'due: part part sits let'
+  tools/book why hall.txt 'due: sits part let' --svg no.svg
   tools/book to-owl hall.txt -o hall.ofn
   tools/book from-owl hall.ofn -o hall.txt
 
@@ -41,14 +44,24 @@ Turns book.rlb into text. The file has numbers for names, so the text has r0,
 r1 ... unless --names lists others."""
 ASK = """\
 Puts questions to the proved engine and shows its answers. A question is
-ROLE: CHAIN, such as 'due: part part sits let': is the chain derived from the
-role? Without a question given, they are read from standard input, one a line."""
+ROLE: CHAIN, such as 'due: part part sits let'. Without a question given, they
+are read from standard input, one a line.
+
+There are two meanings of yes. Asked as it is, the program answers: yes where
+the chain binds the role, that is, where the role links the chain's ends in
+every network that obeys the rules and holds the chain, of 1 to 16 links. With
+--derived the archive answers: yes where replacements by the rules lead from
+the role to the chain, of 1 to 1,024 links. Every derived chain binds; not
+every chain that binds is derived, as `why` shows."""
 WHY = """\
-Shows how chains are derived. A question is as for `ask`, with at most 16
-links. After a yes come the asked role and a line for each step: the chain
-after it, with brackets around the links that it put in, and its rule. The
-proved archive writes the steps and checks them; `rt staticlib rabbitsteel`
-makes it. Of several derivations one is shown."""
+Tells why chains bind a role or do not. A question is as for `ask`, with at
+most 16 links. After a yes come the asked role and a line for each step of a
+derivation: the chain after it, with brackets around the links that it put in,
+and its rule. Where the chain binds and is not derived it says so, and shows the
+same for a walk to and fro along the chain. After a no come a network's links,
+by name: it obeys the rules and holds the chain, from place 0 on, without the
+asked link. The proved archive gives it, and writes and checks the steps;
+`rt staticlib rabbitsteel` makes it. Of several derivations one is shown."""
 FROM_OWL = """\
 Turns the role axioms of an OWL 2 ontology in functional-style syntax into
 text. An axiom that a book cannot hold is refused by name."""
@@ -71,13 +84,17 @@ def parser() -> argparse.ArgumentParser:
     add_output(unpack)
     unpack.set_defaults(run=commands.unpack)
 
-    ask = kinds.add_parser("ask", help="put questions to the engine", description=ASK)
+    ask = kinds.add_parser("ask", help="put questions to the engine", description=ASK, formatter_class=raw)
     add_questions(ask)
-    ask.add_argument("--engine", metavar="FILE", help=f"the program (default: ${VARIABLE}, else target/bin/engine)")
+    way = ask.add_mutually_exclusive_group()
+    way.add_argument("--engine", metavar="FILE", help=f"the program (default: ${VARIABLE}, else target/bin/engine)")
+    way.add_argument("--derived", action="store_true", help="ask the archive whether the chains are derived")
     ask.set_defaults(run=commands.ask)
 
-    why = kinds.add_parser("why", help="show how chains are derived", description=WHY, formatter_class=raw)
+    why = kinds.add_parser("why", help="tell why chains bind or not", description=WHY, formatter_class=raw)
     add_questions(why)
+    why.add_argument("--dot", metavar="FILE", help="draw the networks, as Graphviz's DOT")
+    why.add_argument("--svg", metavar="FILE", help="draw the networks, as SVG")
     why.set_defaults(run=commands.why)
 
     from_owl = kinds.add_parser("from-owl", help="OWL role axioms to text", description=FROM_OWL)

@@ -16,11 +16,11 @@ BUILT = Path(__file__).resolve().parents[2] / "target" / "bin" / "engine"
 
 SIZES = r"(?P<states>\d+) (?P<moves>\d+) (?P<depth>\d+)"
 FIRST_LINE = re.compile(rf"book (?:{SIZES}|refused (?P<cause>1[0-4]|[1-9]) (?P<value>\d+))")
-ANSWER_LINE = re.compile(r"(?P<number>\d+) (?:(?P<word>yes|no)|refused (?P<cause>1[0-4]|[1-9]))")
+ANSWER_LINE = re.compile(r"(?P<number>\d+) (?:(?P<word>yes|no)|refused (?P<cause>1[0-5]|[1-9]))")
 
 
 class Transcript(NamedTuple):
-    """What the program said: a book refused, or its sizes and depth, and an answer (yes, no or a refusal) a question."""
+    """What was said: a book refused, or its sizes and depth, and an answer (yes, no or a refusal) a question."""
 
     refusal: Refusal | None
     states: int
