@@ -56,10 +56,12 @@ pub fn forced(book: &Book, chain: &[u8]) -> Vec<u8> {
     network
 }
 
-/// Writes the links of each name, place by place, into bytes of just their number.
+/// Writes the links of each name, place by place, into bytes of just their number. Most rows are empty, in most networks.
 fn write<const ROLES: usize>(links: &Links<ROLES>, places: usize, network: &mut [u8]) {
+    network.fill(0);
     for (name, pairs) in network.chunks_exact_mut(places * places).enumerate() {
-        for (row, linked) in pairs.chunks_exact_mut(places).zip(links.rows(name)) {
+        let rows = pairs.chunks_exact_mut(places).zip(links.rows(name));
+        for (row, linked) in rows.filter(|(_, linked)| **linked != 0) {
             for (to, byte) in row.iter_mut().enumerate() {
                 *byte = (linked >> to & 1) as u8;
             }
