@@ -124,7 +124,7 @@ fn questions() -> Vec<Asked> {
 }
 
 /// A book of 256 rules over 64 names, with all forms and inverses, and a derived chain of 16 links.
-fn large() -> (Vec<u8>, u8, Vec<u8>) {
+pub fn large() -> (Vec<u8>, u8, Vec<u8>) {
     let random = &mut Random::new(4);
     let style = Style {
         names: 64,

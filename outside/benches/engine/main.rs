@@ -1,10 +1,11 @@
-//! The archive beside the plain engine on the same inputs: reading, order check, building, questions, derivations, and a
-//! million questions through the programs. `cargo bench -- --markdown TABLE.md --svg CHART.svg` writes the table and a chart
-//! of the ratios; both paths may be left out.
+//! The archive beside the plain engine on the same inputs: reading, order check, building, questions, derivations, what
+//! binds, and a million questions through the programs. `cargo bench -- --markdown TABLE.md --svg CHART.svg` writes the table
+//! and a chart of the ratios; both paths may be left out.
 
 mod derivations;
 mod inputs;
 mod measure;
+mod networks;
 mod programs;
 mod re2;
 mod repeats;
@@ -37,6 +38,7 @@ fn main() {
     questions(&mut report);
     whole_way(&mut report);
     derivations::rows(&mut report);
+    networks::rows(&mut report);
     re2::rows(&mut report);
     programs::rows(&mut report);
     println!("\n{}", report.markdown());

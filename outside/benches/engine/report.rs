@@ -18,8 +18,9 @@ pub struct Report {
 const TITLE: &str = "Proved engine beside plain Rust";
 const METHOD: &str = "Times are medians for a call (for the program: for a run) of interleaved samples in one process \
 after a warm-up. The ratio is engine / beside: below 1 the proved engine is faster. The middle half of the samples \
-lies within the spread around each median. `active` is the average number of active states after a link. Lent tables \
-and steps are the same for all calls and are not cleared, except where a row says so.";
+lies within the spread around each median. `active` is the average number of active states after a link, `forced` the \
+number of links that the rules force on a chain. Lent tables, steps and networks are the same for all calls and are not \
+cleared, except where a row says so.";
 
 impl Report {
     /// Adds a row and prints it at once.
@@ -80,7 +81,7 @@ impl Report {
             "<svg xmlns=\"http://www.w3.org/2000/svg\" width=\"{width}\" height=\"{height}\" font-family=\"sans-serif\" font-size=\"11\">\n\
              <rect width=\"100%\" height=\"100%\" fill=\"white\"/>\n\
              <text x=\"12\" y=\"22\" font-size=\"15\">{TITLE}: ratio of times, engine / beside</text>\n\
-             <text x=\"12\" y=\"40\">Green: the engine is faster. Orange: plain Rust is faster. Violet: beside RE2. Grey: beside the search that goes rule by rule.</text>\n"
+             <text x=\"12\" y=\"40\">Green: the engine is faster. Orange: plain Rust is faster. Violet: beside RE2. Blue: beside gringo. Grey: beside the search that goes rule by rule.</text>\n"
         );
         svg += &scale.grid(bottom);
         for (number, row) in self.rows.iter().enumerate() {
@@ -138,6 +139,7 @@ impl Scale {
         let (start, end) = (self.at(log.min(0.0)), self.at(log.max(0.0)));
         let (colour, other) = match *beside {
             "RE2" => ("#8a6db1", " (RE2)"),
+            "gringo" => ("#4a7fb5", " (gringo)"),
             "rule by rule" => ("#8c8c8c", " (rule by rule)"),
             _ if log <= 0.0 => ("#4c9a6a", ""),
             _ => ("#c9803c", ""),
