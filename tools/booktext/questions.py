@@ -14,7 +14,7 @@ CHAIN = Limit(65535, "more than 65,535 links")  # what two bytes can count; the 
 
 
 class Question(NamedTuple):
-    """Is the chain derived from the role?"""
+    """Does the chain bind the role? Or, where that is asked, is it derived from the role?"""
 
     role: Role
     chain: tuple[Role, ...]
