@@ -397,7 +397,7 @@ mod archive {
 
     #[test]
     fn networks() {
-        run("networks", 600, binding::NETWORKS, binding::networks);
+        run("networks", 400, binding::NETWORKS, binding::networks);
     }
 
     #[test]
