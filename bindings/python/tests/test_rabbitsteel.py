@@ -269,14 +269,18 @@ class Bindings(Refusing):
         ]:
             self.refused(cause, 0, rabbitsteel.binds, HALL, asked, chain)
 
-    def test_too_few_bytes_lent(self) -> None:
-        for lent, cause in [(0, 16), (15, 16), (16, None)]:
-            network = calls.lent_bytes(lent)
-            if cause:
-                self.refused(cause, 0, calls.call, "binds", HALL, DUE, bytes([PART]), network)
-                self.assertEqual(bytes(network), bytes(lent))
-            else:
-                self.assertEqual(calls.call("binds", HALL, DUE, bytes([PART]), network), [0])
+    def test_lent_bytes(self) -> None:
+        """Too few are refused before the answer is known, and a yes changes none."""
+        for asked, answer in [(PART, 1), (DUE, 0)]:
+            for count in (0, 15, 16, 20):
+                network = calls.lent_bytes(count)
+                network[:] = noise = bytes([99] * count)
+                if count < 16:
+                    self.refused(Cause.BUFFER, 0, calls.call, "binds", HALL, asked, bytes([PART]), network)
+                else:
+                    self.assertEqual(calls.call("binds", HALL, asked, bytes([PART]), network), [answer])
+                written = 0 if answer or count < 16 else 16
+                self.assertEqual(bytes(network), bytes([0, 1, *[0] * 14])[:written] + noise[written:])
 
 
 class Arguments(unittest.TestCase):
