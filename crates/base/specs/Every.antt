@@ -2,8 +2,8 @@
 use mathlib.Core.Bool.{Bool, true, false, cond}
 use mathlib.Core.List.{List, [], _∷_, _++_, List·Memᴰ, List·Memᴰ·head, List·Memᴰ·tail, List·Memᴰ·not-nil, List·Memᴰ·cases-cons, List·Memᴰ·append-cases, Memᴰ·append-left, Memᴰ·append-right}
 use mathlib.Core.Logic.{_⊎_, inl, inr}
-use mathlib.Core.Path.{_≡_, refl}
-use Prim.Native.Nat.{ℕ, zero, suc, _<_}
+use mathlib.Core.Path.{_≡_, refl, sym}
+use Prim.Native.Nat.{ℕ, zero, suc, _<_, zero-le, suc-le-suc}
 use native.Mathlib.Nat.{not-suc-le-zero, le-of-suc-le-suc}
 use lib.ListN.{length, getD}
 
@@ -11,6 +11,11 @@ pub getD-member : {A : Type 0} (l : List A) (k : ℕ) (d : A) → k < length l �
 getD-member [] k d h = absurd (not-suc-le-zero h)
 getD-member (a ∷ l) zero d h = List·Memᴰ·head refl
 getD-member (a ∷ l) (suc k) d h = List·Memᴰ·tail (getD-member l k d (le-of-suc-le-suc h))
+
+-- where a member stands
+pub member-place : {A : Type 0} (l : List A) {a : A} (d : A) → List·Memᴰ a l → (k : ℕ) × (k < length l) × (getD l k d ≡ a)
+member-place (a ∷ l) d (List·Memᴰ·head e) = (0, suc-le-suc zero-le, sym e)
+member-place (a ∷ l) d (List·Memᴰ·tail m) = let (k, h, e) = member-place l d m in (suc k, suc-le-suc h, e)
 
 -- what holds of both choices holds of the chosen one
 pub cond-both : {A : Type 0} (P : A → Type 0) (t : Bool) {a b : A} → P a → P b → P (cond t a b)
