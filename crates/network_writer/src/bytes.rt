@@ -6,12 +6,7 @@ use name_sets::has;
 use network_rows::row;
 
 // The links of the first names between the first places, from the front on. Returns where the bytes end.
-pub(crate) fn put_network(
-    rows: &[u32],
-    names: usize,
-    places: usize,
-    network: &mut [u8],
-) -> usize
+pub(crate) fn put_network(rows: &[u32], names: usize, places: usize, network: &mut [u8]) -> usize
     requires { ⌜ (names * (places * places) ≤ length (now network)) × (names ≤ 64) × (places ≤ 17) ⌝ }
     ensures { λ r. ⌜ Puts (now (network .entry)) 0 (rows-bytes (now (rows .entry)) names places) (now (network .exit)) r ⌝ }
 {

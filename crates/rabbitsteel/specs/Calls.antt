@@ -11,8 +11,11 @@ use Rattle.book_causes.specs.Ordered.{ordered}
 use Rattle.book_causes.specs.Accepted.{states-of, count-of, levels-of, depth-of, heads-of, moves-of, built, written}
 use Rattle.query_causes.specs.Query.{Answered}
 use Rattle.query_correctness.specs.Reply.{Replied, posed}
+use Rattle.book_questions.specs.declared.BookAnswer.{BookAnswer}
+use Rattle.book_questions.specs.Admission.{answers}
 use Rattle.derivation_writer.specs.declared.Derivation.{Derivation}
 use Rattle.derivation_writer.specs.WritesDerivation.{writable, Writes}
+use Rattle.network_writer.specs.WritesNetwork.{bindable, Answers}
 use Rattle.call_numbers.specs.Tells.{Numbers, Tells, bit, derivation-numbers}
 
 -- how many names and rules, and the depth
@@ -56,3 +59,9 @@ pub record TellsDerivation (s : List ℕ) (r : ℕ) (w : Chain) (old new : List 
   pub said : Derivation
   pub writes : Writes (writable (length old) s r w) r w old new said
   pub tells : Tells (derivation-numbers said) cause first second 0
+
+-- whether a chain binds a role, and the lent bytes
+pub record TellsBinding (s : List ℕ) (r : ℕ) (w : Chain) (old new : List ℕ) (cause answer : ℕ) : Type 0 where
+  pub said : BookAnswer
+  pub binding : Answers (bindable (length old) s r w) r w old new said
+  pub tells : Tells (map-result bit (answers said)) cause answer 0 0

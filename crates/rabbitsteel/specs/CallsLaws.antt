@@ -36,8 +36,9 @@ use Rattle.book_questions.specs.Admission.{answers}
 use Rattle.derivation_writer.specs.declared.Derivation.{Derivation}
 use Rattle.derivation_writer.specs.declared.Derivation.the-variants.{Steps, None, Refused as Unwritten}
 use Rattle.derivation_writer.specs.WritesDerivation.{writable, Writes}
+use Rattle.network_writer.specs.WritesNetwork.{bindable, Answers}
 use Rattle.call_numbers.specs.Tells.{Numbers, Tells, header-counts, built-counts, bit, derivation-numbers}
-use Rattle.rabbitsteel.specs.Calls.{book-counts, TellsOrder, TellsBuild, TellsAnswer, TellsDerived, TellsDerivation}
+use Rattle.rabbitsteel.specs.Calls.{book-counts, TellsOrder, TellsBuild, TellsAnswer, TellsDerived, TellsDerivation, TellsBinding}
 
 -- what is told of an answer is told of the definition that it equals
 pub told-of : {A B : Type 0} (f : A → B) (g : B → Numbers) (x : Result A) {v : Result B} {cause one two three : ℕ} → v ≡ map-result f x
@@ -127,3 +128,8 @@ tells-derivation {d = d} q t = record { said = d; writes = q; tells = two-derive
 pub tells-checked : (a : BookAnswer) {x : Result Bool} {cause one two three : ℕ} → answers a ≡ x → Tells (map-result bit (answers a)) cause one two three
     → Tells (map-result bit x) cause one 0 0
 tells-checked a {x} e t = one-told x (rw e at t)
+
+pub tells-binding : {s : List ℕ} {r : ℕ} {w : Chain} {old new : List ℕ} (a : BookAnswer) {cause one two three : ℕ}
+    → Answers (bindable (length old) s r w) r w old new a → Tells (map-result bit (answers a)) cause one two three
+    → TellsBinding s r w old new cause one
+tells-binding a q t = record { said = a; binding = q; tells = one-told (answers a) t }

@@ -4,7 +4,7 @@ ghost use Rattle.book_format.specs.Format.{read};
 ghost use Rattle.base.specs.Result.{map-result};
 ghost use Rattle.call_numbers.specs.Tells.{Tells, bit};
 ghost use Rattle.derivation_checker.specs.CheckedDerivation.{checked-derivation};
-ghost use Rattle.rabbitsteel.specs.Calls.{TellsOrder, TellsBuild, TellsAnswer, TellsDerived, TellsDerivation, book-counts};
+ghost use Rattle.rabbitsteel.specs.Calls.{TellsOrder, TellsBuild, TellsAnswer, TellsDerived, TellsDerivation, TellsBinding, book-counts};
 use byte_parts::copy;
 use call_numbers::tell_answer;
 use call_numbers::tell_book_answer;
@@ -139,6 +139,24 @@ pub extern "C" fn rabbitsteel_check_derivation(
     ensures { λ r. ⌜ Tells (map-result bit (checked-derivation (now (book .entry)) role (now (chain .entry)) (now (steps .entry)))) r (now (answer .exit)) 0 0 ⌝ }
 {
     let told = tell_book_answer(derivation_checker::check(book, role, chain, steps));
+    *answer = told.first;
+    told.cause
+}
+
+// Whether the chain binds the role by the rules of the book: 1 for yes, 0 for no. Causes 1 to 8 and 13 to 16. Refused: the value beside the cause. No: the network
+// of the links that the rules force on the chain is written, a byte for each name, from-place and to-place in this order. The bytes behind it are left as
+// they were, and all of them where none is written.
+#[no_mangle]
+pub extern "C" fn rabbitsteel_binds(
+    book: &[u8],
+    role: u8,
+    chain: &[u8],
+    network: &mut [u8],
+    answer: &mut u64,
+) -> u64
+    ensures { λ r. ⌜ TellsBinding (now (book .entry)) role (now (chain .entry)) (now (network .entry)) (now (network .exit)) r (now (answer .exit)) ⌝ }
+{
+    let told = tell_book_answer(network_writer::bind(book, role, chain, network));
     *answer = told.first;
     told.cause
 }

@@ -22,7 +22,7 @@ loop-holds c = (omega arith, puts-start (λ y. name-bytes (c .before .before .ar
 put-name-requires : tie.Need-put-name-requires Inv-loop μ-loop
 put-name-requires c κs = (
   puts-room {start = 0} (λ y. name-bytes (c .before .before .before .before .before .args .rows .now) (64 * y) (c .before .before .before .before .before .args .places)) (c .before .before .before .before .before .args .places * c .before .before .before .before .before .args .places) (c .before .before .before .before .before .args .names) (c .before .before .loop .x)
-  (λ y. length-name (c .before .before .before .before .before .args .rows .now) (64 * y) (c .before .before .before .before .before .args .places)) (c .before .loop-test .taken) (rw (zero-add) (c .before .before .before .before .before .pre .0)) (c .before .before .loop .inv .1),
+      (λ y. length-name (c .before .before .before .before .before .args .rows .now) (64 * y) (c .before .before .before .before .before .args .places)) (c .before .loop-test .taken) (rw (zero-add) (c .before .before .before .before .before .pre .0)) (c .before .before .loop .inv .1),
   omega (arith, c .before .loop-test .taken, c .before .before .before .before .before .pre .1),
   c .before .before .before .before .before .pre .2,
 )
