@@ -1,0 +1,3 @@
+pub mod TableTrails
+pub mod TableTrailsLaws
+pub mod TrailsBind
