@@ -2,7 +2,6 @@
 ghost use Prim.Native.Nat.{_+_, _*_, _≤_};
 ghost use lib.ListN.{length, getD};
 ghost use Rattle.network_writer.specs.RowBytes.{row-bytes, name-bytes, rows-bytes, Puts};
-use name_sets::has;
 use network_rows::row;
 
 // The links of the first names between the first places, from the front on. Returns where the bytes end.
@@ -35,12 +34,12 @@ fn put_name(rows: &[u32], front: usize, places: usize, start: usize, network: &m
 
 // The links of one name from one place, as a set. Returns where its bytes end.
 fn put_row(set: u64, places: usize, start: usize, network: &mut [u8]) -> usize
-    requires { ⌜ start + places ≤ length (now network) ⌝ }
+    requires { ⌜ (start + places ≤ length (now network)) × (places ≤ 17) ⌝ }
     ensures { λ r. ⌜ Puts (now (network .entry)) start (row-bytes set places) (now (network .exit)) r ⌝ }
 {
     let mut to = 0;
     while to < places {
-        network[start + to] = has(set, to) as u8;
+        network[start + to] = ((set >> to) & 1) as u8;
         to += 1;
     }
     start + places

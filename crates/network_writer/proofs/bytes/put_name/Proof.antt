@@ -24,9 +24,11 @@ add-row : tie.Need-add-row Inv-loop μ-loop
 add-row c = omega (arith, c .loop-test .taken, c .before .before .before .before .pre .1, c .before .before .before .before .pre .2)
 
 put-row-requires : tie.Need-put-row-requires Inv-loop μ-loop
-put-row-requires c κs =
-    puts-room (λ a. row-bytes (getD (c .before .before .before .before .before .before .args .rows .now) (c .before .before .before .before .before .before .args .front + a) 0) (c .before .before .before .before .before .before .args .places)) (c .before .before .before .before .before .before .args .places) (c .before .before .before .before .before .before .args .places) (c .before .before .before .loop .from)
-    (λ a. length-row (getD (c .before .before .before .before .before .before .args .rows .now) (c .before .before .before .before .before .before .args .front + a) 0) (c .before .before .before .before .before .before .args .places)) (c .before .before .loop-test .taken) (c .before .before .before .before .before .before .pre .0) (c .before .before .before .loop .inv .1)
+put-row-requires c κs = (
+  puts-room (λ a. row-bytes (getD (c .before .before .before .before .before .before .args .rows .now) (c .before .before .before .before .before .before .args .front + a) 0) (c .before .before .before .before .before .before .args .places)) (c .before .before .before .before .before .before .args .places) (c .before .before .before .before .before .before .args .places) (c .before .before .before .loop .from)
+  (λ a. length-row (getD (c .before .before .before .before .before .before .args .rows .now) (c .before .before .before .before .before .before .args .front + a) 0) (c .before .before .before .before .before .before .args .places)) (c .before .before .loop-test .taken) (c .before .before .before .before .before .before .pre .0) (c .before .before .before .loop .inv .1),
+  c .before .before .before .before .before .before .pre .2,
+)
 
 loop-again : tie.Need-loop-again Inv-loop μ-loop
 loop-again c = (

@@ -2,12 +2,13 @@
 use mathlib.Core.List.{[], _∷_}
 use mathlib.Core.Path.{_≡_}
 use mir.Val.{boolByte}
-use Prim.Native.Nat.{_+_, _-_, _≤_}
+use Prim.Native.Nat.{_+_, _-_, _/_, _^_, _≤_}
 use native.Mathlib.Omega.{arith}
 use borrow.Author.Needs.{needs}
+use lib.Bits.{mask-lt}
 use Rattle.name_sets.specs.Mask.{has}
 use Rattle.network_writer.specs.RowBytes.{row-bytes, Puts}
-use Rattle.network_writer.specs.RowBytesLaws.{puts-size, puts-start, puts-next, puts-byte}
+use Rattle.network_writer.specs.RowBytesLaws.{puts-size, puts-start, puts-next, puts-byte, bit-byte}
 use Rattle.network_writer.proofs.bytes.put_row.Statement.{statement}
 use Rattle.network_writer.proofs.bytes.put_row.Tie as tie
 
@@ -19,31 +20,37 @@ abbrev μ-loop : tie.MeasureT-loop
 
 loop-holds : tie.Need-loop-holds Inv-loop μ-loop
 loop-holds c =
-    let e : c .before .args .start + 0 ≡ c .before .args .start = omega arith in
-    (omega arith, rw e (puts-start (λ b. boolByte (has (c .before .args .set) b) ∷ [])))
+    let e : c .args .start + 0 ≡ c .args .start = omega arith in
+    (omega arith, rw e (puts-start (λ b. boolByte (has (c .args .set) b) ∷ [])))
+
+shr-network : tie.Need-shr-network Inv-loop μ-loop
+shr-network c = omega (arith, c .loop-test .taken, c .before .before .pre .1)
+
+cast-network : tie.Need-cast-network Inv-loop μ-loop
+cast-network c = omega (arith, mask-lt (c .before .before .args .set / 2 ^ c .before .loop .to) 1)
 
 add-network : tie.Need-add-network Inv-loop μ-loop
-add-network c = omega (arith, c .before .loop-test .taken, c .before .before .before .before .pre, c .before .before .before .before .good)
+add-network c = omega (arith, c .loop-test .taken, c .before .before .pre .0, c .before .before .good)
 
 slice-write-network : tie.Need-slice-write-network Inv-loop μ-loop
-slice-write-network c = omega (arith, c .before .loop-test .taken, c .before .before .before .before .pre, puts-size (c .before .before .loop .inv .1))
+slice-write-network c = omega (arith, c .loop-test .taken, c .before .before .pre .0, puts-size (c .before .loop .inv .1))
 
 loop-again : tie.Need-loop-again Inv-loop μ-loop
 loop-again c =
-    let e : c .before .before .before .before .args .start + c .before .before .loop .to + 1 ≡ c .before .before .before .before .args .start + (c .before .before .loop .to + 1) = omega arith in (
-      omega (arith, c .before .loop-test .taken),
-      rw (c .has .ensures) (rw e at (puts-next (λ b. boolByte (has (c .before .before .before .before .args .set) b) ∷ []) (c .before .before .loop .inv .1) (puts-byte _ _ _))),
+    let e : c .before .before .args .start + c .before .loop .to + 1 ≡ c .before .before .args .start + (c .before .loop .to + 1) = omega arith in (
+      omega (arith, c .loop-test .taken),
+      rw (bit-byte (c .before .before .args .set) (c .before .loop .to)) (rw e at (puts-next (λ b. boolByte (has (c .before .before .args .set) b) ∷ []) (c .before .loop .inv .1) (puts-byte _ _ _))),
     )
 
 add-result : tie.Need-add-result Inv-loop μ-loop
-add-result c = omega (arith, c .before .before .before .pre, c .before .before .before .good)
+add-result c = omega (arith, c .before .before .pre .0, c .before .before .good)
 
 same-length : tie.Need-same-length Inv-loop μ-loop
 same-length c = puts-size (c .before .loop .inv .1)
 
 returns : tie.Need-returns Inv-loop μ-loop
 returns c =
-    let e : c .before .loop .to ≡ c .before .before .before .args .places = omega (arith, c .loop-test .left, c .before .loop .inv .0) in
+    let e : c .before .loop .to ≡ c .before .before .args .places = omega (arith, c .loop-test .left, c .before .loop .inv .0) in
     rw e at (c .before .loop .inv .1)
 
 pub put-row-spec : {M : Type 1} → statement M
@@ -53,8 +60,8 @@ put-row-spec =
     Inv-loop
     μ-loop
     loop-holds
-    (λ c κs. search needs)
-    (λ c. search needs)
+    shr-network
+    cast-network
     add-network
     slice-write-network
     (λ c. search needs)
