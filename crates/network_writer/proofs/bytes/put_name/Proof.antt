@@ -26,7 +26,7 @@ add-row c = omega (arith, c .loop-test .taken, c .before .before .before .before
 put-row-requires : tie.Need-put-row-requires Inv-loop μ-loop
 put-row-requires c κs = (
   puts-room (λ a. row-bytes (getD (c .before .before .before .before .before .before .args .rows .now) (c .before .before .before .before .before .before .args .front + a) 0) (c .before .before .before .before .before .before .args .places)) (c .before .before .before .before .before .before .args .places) (c .before .before .before .before .before .before .args .places) (c .before .before .before .loop .from)
-  (λ a. length-row (getD (c .before .before .before .before .before .before .args .rows .now) (c .before .before .before .before .before .before .args .front + a) 0) (c .before .before .before .before .before .before .args .places)) (c .before .before .loop-test .taken) (c .before .before .before .before .before .before .pre .0) (c .before .before .before .loop .inv .1),
+      (λ a. length-row (getD (c .before .before .before .before .before .before .args .rows .now) (c .before .before .before .before .before .before .args .front + a) 0) (c .before .before .before .before .before .before .args .places)) (c .before .before .loop-test .taken) (c .before .before .before .before .before .before .pre .0) (c .before .before .before .loop .inv .1),
   c .before .before .before .before .before .before .pre .2,
 )
 
