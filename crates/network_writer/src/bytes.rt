@@ -32,14 +32,30 @@ fn put_name(rows: &[u32], front: usize, places: usize, start: usize, network: &m
     at
 }
 
-// The links of one name from one place, as a set. Returns where its bytes end.
+// The links of one name from one place, as a set. Returns where its bytes end. Most sets are empty.
 fn put_row(set: u64, places: usize, start: usize, network: &mut [u8]) -> usize
     requires { ⌜ (start + places ≤ length (now network)) × (places ≤ 17) ⌝ }
     ensures { λ r. ⌜ Puts (now (network .entry)) start (row-bytes set places) (now (network .exit)) r ⌝ }
 {
+    if set == 0 {
+        return put_zeros(places, start, network);
+    }
     let mut to = 0;
     while to < places {
         network[start + to] = ((set >> to) & 1) as u8;
+        to += 1;
+    }
+    start + places
+}
+
+// So many zeros. Returns where they end.
+fn put_zeros(places: usize, start: usize, network: &mut [u8]) -> usize
+    requires { ⌜ start + places ≤ length (now network) ⌝ }
+    ensures { λ r. ⌜ Puts (now (network .entry)) start (row-bytes 0 places) (now (network .exit)) r ⌝ }
+{
+    let mut to = 0;
+    while to < places {
+        network[start + to] = 0;
         to += 1;
     }
     start + places

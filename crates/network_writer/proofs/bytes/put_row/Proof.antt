@@ -18,39 +18,45 @@ Inv-loop set places start network₀ to₀ network to = (to ≤ places) × Puts 
 abbrev μ-loop : tie.MeasureT-loop
 μ-loop set places start network₀ to₀ network to = places - to
 
+put-zeros-requires : tie.Need-put-zeros-requires Inv-loop μ-loop
+put-zeros-requires c κs = c .before .before .before .pre .0
+
+returns : tie.Need-returns Inv-loop μ-loop
+returns c = rw (c .before .before .before .before .if1 .taken) (c .before .before .put-zeros .ensures)
+
 loop-holds : tie.Need-loop-holds Inv-loop μ-loop
 loop-holds c =
-    let e : c .args .start + 0 ≡ c .args .start = omega arith in
-    (omega arith, rw e (puts-start (λ b. boolByte (has (c .args .set) b) ∷ [])))
+    let e : c .before .before .args .start + 0 ≡ c .before .before .args .start = omega arith in
+    (omega arith, rw e (puts-start (λ b. boolByte (has (c .before .before .args .set) b) ∷ [])))
 
 shr-network : tie.Need-shr-network Inv-loop μ-loop
-shr-network c = omega (arith, c .loop-test .taken, c .before .before .pre .1)
+shr-network c = omega (arith, c .loop-test .taken, c .before .before .before .before .pre .1)
 
 cast-network : tie.Need-cast-network Inv-loop μ-loop
-cast-network c = omega (arith, mask-lt (c .before .before .args .set / 2 ^ c .before .loop .to) 1)
+cast-network c = omega (arith, mask-lt (c .before .before .before .before .args .set / 2 ^ c .before .loop .to) 1)
 
 add-network : tie.Need-add-network Inv-loop μ-loop
-add-network c = omega (arith, c .loop-test .taken, c .before .before .pre .0, c .before .before .good)
+add-network c = omega (arith, c .loop-test .taken, c .before .before .before .before .pre .0, c .before .before .before .before .good)
 
 slice-write-network : tie.Need-slice-write-network Inv-loop μ-loop
-slice-write-network c = omega (arith, c .loop-test .taken, c .before .before .pre .0, puts-size (c .before .loop .inv .1))
+slice-write-network c = omega (arith, c .loop-test .taken, c .before .before .before .before .pre .0, puts-size (c .before .loop .inv .1))
 
 loop-again : tie.Need-loop-again Inv-loop μ-loop
 loop-again c =
-    let e : c .before .before .args .start + c .before .loop .to + 1 ≡ c .before .before .args .start + (c .before .loop .to + 1) = omega arith in (
+    let e : c .before .before .before .before .args .start + c .before .loop .to + 1 ≡ c .before .before .before .before .args .start + (c .before .loop .to + 1) = omega arith in (
       omega (arith, c .loop-test .taken),
-      rw (bit-byte (c .before .before .args .set) (c .before .loop .to)) (rw e at (puts-next (λ b. boolByte (has (c .before .before .args .set) b) ∷ []) (c .before .loop .inv .1) (puts-byte _ _ _))),
+      rw (bit-byte (c .before .before .before .before .args .set) (c .before .loop .to)) (rw e at (puts-next (λ b. boolByte (has (c .before .before .before .before .args .set) b) ∷ []) (c .before .loop .inv .1) (puts-byte _ _ _))),
     )
 
 add-result : tie.Need-add-result Inv-loop μ-loop
-add-result c = omega (arith, c .before .before .pre .0, c .before .before .good)
+add-result c = omega (arith, c .before .before .before .before .pre .0, c .before .before .before .before .good)
 
-same-length : tie.Need-same-length Inv-loop μ-loop
-same-length c = puts-size (c .before .loop .inv .1)
+same-length-2 : tie.Need-same-length-2 Inv-loop μ-loop
+same-length-2 c = puts-size (c .before .loop .inv .1)
 
-returns : tie.Need-returns Inv-loop μ-loop
-returns c =
-    let e : c .before .loop .to ≡ c .before .before .args .places = omega (arith, c .loop-test .left, c .before .loop .inv .0) in
+returns-2 : tie.Need-returns-2 Inv-loop μ-loop
+returns-2 c =
+    let e : c .before .loop .to ≡ c .before .before .before .before .args .places = omega (arith, c .loop-test .left, c .before .loop .inv .0) in
     rw e at (c .before .loop .inv .1)
 
 pub put-row-spec : {M : Type 1} → statement M
@@ -59,6 +65,9 @@ put-row-spec =
     (tie.spec
     Inv-loop
     μ-loop
+    put-zeros-requires
+    (λ c. search needs)
+    returns
     loop-holds
     shr-network
     cast-network
@@ -68,5 +77,5 @@ put-row-spec =
     (λ c. search needs)
     loop-again
     add-result
-    same-length
-    returns)
+    same-length-2
+    returns-2)
