@@ -1,6 +1,6 @@
 // Writes links as bytes, 1 for a link and 0 for none: for each name, from-place and to-place in this order.
 ghost use Prim.Native.Nat.{_+_, _*_, _≤_};
-ghost use lib.ListN.{length, getD};
+ghost use lib.ListN.{length};
 ghost use Rattle.network_writer.specs.RowBytes.{row-bytes, name-bytes, rows-bytes, Puts};
 use network_rows::row;
 

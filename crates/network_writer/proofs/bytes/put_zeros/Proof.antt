@@ -1,8 +1,8 @@
 -- `put_zeros` meets its contract. The invariant: the first zeros are put.
 use mathlib.Core.List.{[], _∷_}
-use mathlib.Core.Path.{_≡_, subst}
+use mathlib.Core.Path.{_≡_}
 use mir.Val.{boolByte}
-use Prim.Native.Nat.{ℕ, _+_, _-_, _≤_}
+use Prim.Native.Nat.{_+_, _-_, _≤_}
 use native.Mathlib.Omega.{arith}
 use borrow.Author.Needs.{needs}
 use Rattle.name_sets.specs.Mask.{has}
