@@ -1,0 +1,9 @@
+pub mod TrailQuery
+pub mod PairSets
+pub mod PairSetsLaws
+pub mod TrailIndex
+pub mod TrailIndexLaws
+pub mod Hops
+pub mod HopsLaws
+pub mod Reaching
+pub mod ReachingLaws

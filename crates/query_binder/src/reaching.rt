@@ -1,0 +1,41 @@
+// Whether hops lead from one pair to another, by a walk along a set of pairs that grows while it is walked.
+ghost use Prim.Native.Nat.{_+_, _<_, _≤_};
+ghost use Rattle.base.specs.Reflects.{Reflects};
+ghost use Rattle.networks.specs.LaidChain.{laid};
+ghost use Rattle.table_trails.specs.TableTrails.{Leads};
+ghost use Rattle.query_causes.specs.Query.{transitions-in};
+ghost use Rattle.query_binder.specs.Hops.{Ground};
+ghost use Rattle.query_binder.specs.PairSets.{Unused};
+use crate::hops::visit;
+use crate::pairs::put;
+
+// Whether hops lead from the state `head` at one place to the next state at another. The set has the given stamp.
+pub(crate) fn weave(
+    moves: &[u16],
+    index: &[u16],
+    chain: &[u8],
+    head: usize,
+    begin: usize,
+    end: usize,
+    stamp: u16,
+    pairs: &mut [u16],
+) -> bool
+    requires { ⌜ Ground (now moves) (now index) (now chain) ⌝ }
+    requires { ⌜ (head < 2047) × (begin ≤ 16) × (end ≤ 16) ⌝ }
+    requires { ⌜ Unused stamp (now pairs) ⌝ }
+    ensures { λ r. ⌜ Reflects r (Leads (transitions-in (now (moves .entry))) (laid (now (chain .entry))) (head + 1) end head begin) ⌝ }
+    ensures { λ _. ⌜ Unused (stamp + 1) (now (pairs .exit)) ⌝ }
+{
+    let mark = 34816 + (2048 * end + (head + 1));
+    let mut count = put(pairs, stamp, 0, 2048 * begin + head);
+    let mut i = 0;
+    while i < count {
+        if pairs[mark] == stamp {
+            return true;
+        }
+        let pair = pairs[i] as usize;
+        count = visit(moves, index, chain, pair, pairs, stamp, count);
+        i += 1;
+    }
+    pairs[mark] == stamp
+}
