@@ -7,6 +7,7 @@ use Prim.Native.Nat.{ℕ, zero, suc, _+_, _≤_}
 use lib.ListN.{length, getD, take, drop}
 use Rattle.base.specs.Result.{Result}
 use Rattle.base.specs.Result.Result.{refused, ok}
+use Rattle.roles.specs.Role.{Chain}
 use Rattle.query_causes.specs.Query.{Answered}
 use Rattle.query_causes.specs.ManyQueries.{names-in}
 use Rattle.query_causes.specs.Input.{links-of, Whole, Broken}
@@ -21,11 +22,12 @@ told zero = ok false
 told (suc zero) = ok true
 told (suc (suc n)) = refused (suc (suc n)) 0
 
-module _ (heads moves : List ℕ) where
+-- over what it is to answer a question about a role and a chain
+module _ (Answers : ℕ → Chain → Result Bool → Type 0) where
   -- the bytes answer, one each, the whole questions at the front of s, which take n bytes
   pub data Batched : List ℕ → ℕ → List ℕ → Type 0 where
     none : (s : List ℕ) → Batched s 0 []
-    more : (s : List ℕ) (byte n : ℕ) (bytes : List ℕ) → Whole s → Answered heads moves (getD s 0 0) (take (links-of s) (drop 3 s)) (told byte)
+    more : (s : List ℕ) (byte n : ℕ) (bytes : List ℕ) → Whole s → Answers (getD s 0 0) (take (links-of s) (drop 3 s)) (told byte)
         → Batched (drop (3 + links-of s) s) n bytes → Batched s (3 + links-of s + n) (byte ∷ bytes)
 
   -- as many of the questions on q as there is room for are answered
@@ -44,6 +46,7 @@ module _ (heads moves : List ℕ) where
     pub completes : (n : ℕ) (bytes : List ℕ) → Batched (drop read q) n bytes → Batched q (read + n) (take answered answers′ ++ bytes)
     pub kept : drop answered answers′ ≡ drop answered answers
 
+module _ (heads moves : List ℕ) where
   -- how many names the tables have, 0 where they do not fit; those that fit are indexed, and the sets are empty under a stamp
   pub record Ready (names stamp : ℕ) (space : List ℕ) : Type 0 where
     pub unused : Unused 2048 stamp space

@@ -12,6 +12,7 @@ use lib.ListN.{length, getD, set, take, drop, replicate, length-set, length-drop
 use lib.Seq.{getD-drop, drop-drop, take-suc-set, drop-set-lt, length-take-le}
 use mir.Val.{boolByte}
 use Rattle.base.specs.Reflects.{Reflects}
+use Rattle.base.specs.Result.{Result}
 use Rattle.base.specs.Result.Result.{refused, ok}
 use Rattle.base.specs.ResultLaws.{demand-test}
 use Rattle.base.specs.Decision.Decision.{refuses, yes, no}
@@ -57,13 +58,13 @@ module _ (s : List ℕ) {size : ℕ} (e : size ≡ whole-size s) where
         between-some 3 size s (omega (arith, sized .0, sized .1)) (omega (arith, sized .0)) ∙ ap (λ (n : ℕ). take n (drop 3 s)) same
 
 -- a whole question at a place of q is answered
-module _ {heads moves q answers answers′ : List ℕ} {read answered : ℕ} (g : Going heads moves q answers read answered answers′) where
+module _ {Answers : ℕ → Chain → Result Bool → Type 0} {q answers answers′ : List ℕ} {read answered : ℕ} (g : Going Answers q answers read answered answers′) where
   module _ {size : ℕ} (e : size ≡ whole-size (drop read q)) (some : size ≡ 0 → ⊥) where
     pub whole-fits : read + size ≤ length q
     whole-fits = let f = sized (drop read q) e some in omega (arith, f .0, f .1, g .within, length-drop read q)
 
-    pub going-next : (byte : ℕ) → answered < length answers′ → Answered heads moves (getD (drop read q) 0 0) (take (links-of (drop read q)) (drop 3 (drop read q))) (told byte)
-        → Going heads moves q answers (read + size) (answered + 1) (set answers′ answered byte)
+    pub going-next : (byte : ℕ) → answered < length answers′ → Answers (getD (drop read q) 0 0) (take (links-of (drop read q)) (drop 3 (drop read q))) (told byte)
+        → Going Answers q answers (read + size) (answered + 1) (set answers′ answered byte)
     going-next byte l t =
         let f = sized (drop read q) e some in
         record {
@@ -73,7 +74,7 @@ module _ {heads moves q answers answers′ : List ℕ} {read answered : ℕ} (g 
           completes = λ n bytes b.
               let one : answered + 1 ≡ suc answered = omega arith in
               let sum : read + size + n ≡ read + (3 + links-of (drop read q) + n) = omega (arith, f .0) in
-              let rest : Batched heads moves (drop (3 + links-of (drop read q)) (drop read q)) n bytes =
+              let rest : Batched Answers (drop (3 + links-of (drop read q)) (drop read q)) n bytes =
               rw (drop-drop (3 + links-of (drop read q)) read q, ← f .0) b in
               let joined = g .completes (3 + links-of (drop read q) + n) (byte ∷ bytes) (more (drop read q) byte n bytes (f .1) t rest) in
               rw (one, take-suc-set answers′ answered byte l, append-assoc (take answered answers′) (byte ∷ []) bytes, sum) joined;
@@ -88,7 +89,7 @@ module _ {heads moves q answers answers′ : List ℕ} {read answered : ℕ} (g 
         }
 
   -- why no more is answered
-  going-ends : (answered ≡ length answers) ⊎ Broken (drop read q) → Batches heads moves q answers answers′ (record { answered = answered; read = read })
+  going-ends : (answered ≡ length answers) ⊎ Broken (drop read q) → Batches Answers q answers answers′ (record { answered = answered; read = read })
   going-ends stopped =
       let none-left : read + 0 ≡ read = omega arith in
       record {
@@ -99,15 +100,15 @@ module _ {heads moves q answers answers′ : List ℕ} {read answered : ℕ} (g 
         stopped = stopped;
       }
 
-  pub going-full : length answers′ ≤ answered → Batches heads moves q answers answers′ (record { answered = answered; read = read })
+  pub going-full : length answers′ ≤ answered → Batches Answers q answers answers′ (record { answered = answered; read = read })
   going-full l = going-ends (inl (omega (arith, g .same, g .fits, l)))
 
-  pub going-broken : {size : ℕ} → size ≡ whole-size (drop read q) → size ≡ 0 → Batches heads moves q answers answers′ (record { answered = answered; read = read })
+  pub going-broken : {size : ℕ} → size ≡ whole-size (drop read q) → size ≡ 0 → Batches Answers q answers answers′ (record { answered = answered; read = read })
   going-broken e z = going-ends (inr (unsized (drop read q) e z))
 
 -- nothing is answered yet
-pub going-none : (heads moves q answers : List ℕ) → Going heads moves q answers 0 0 answers
-going-none heads moves q answers = record { within = omega arith; fits = omega arith; same = refl; completes = λ n bytes b. rw (zero-add n) b; kept = refl }
+pub going-none : (Answers : ℕ → Chain → Result Bool → Type 0) (q answers : List ℕ) → Going Answers q answers 0 0 answers
+going-none Answers q answers = record { within = omega arith; fits = omega arith; same = refl; completes = λ n bytes b. rw (zero-add n) b; kept = refl }
 
 -- tables that fit, and are indexed, or do not fit
 module _ (heads moves : List ℕ) {names : ℕ} (e : names ≡ names-in heads moves) where
@@ -130,10 +131,33 @@ module _ (heads moves : List ℕ) {names : ℕ} (e : names ≡ names-in heads mo
         let p = f .prepared (f .all (named-tables some .fit)) in
         record { unused = p .unused; named = e; indexed = λ some. p .indexed }
 
-told-refused : (c : ℕ) → 12 ≤ c → told c ≡ refused c 0
+pub told-refused : (c : ℕ) → 12 ≤ c → told c ≡ refused c 0
 told-refused zero l = absurd (let f : ⊥ = omega (arith, l) in f)
 told-refused (suc zero) l = absurd (let f : ⊥ = omega (arith, l) in f)
 told-refused (suc (suc c)) l = refl
+
+-- what answers a question by its parts answers it by its bytes
+module _ (q : List ℕ) (read : ℕ) {size : ℕ} (e : size ≡ whole-size (drop read q)) (some : 0 < size) {r : ℕ} (role : r ≡ getD q read 0)
+    {w : Chain} (chain : w ≡ between 3 size (drop read q)) where
+  pub answered-as : (Answers : ℕ → Chain → Result Bool → Type 0) (byte : ℕ) → Answers r w (told byte)
+      → Answers (getD (drop read q) 0 0) (take (links-of (drop read q)) (drop 3 (drop read q))) (told byte)
+  answered-as Answers byte t =
+      let front : read + 0 ≡ read = omega arith in
+      let first : getD (drop read q) 0 0 ≡ r = getD-drop read q 0 0 ∙ ap (λ (i : ℕ). getD q i 0) front ∙ sym role in
+      let links : take (links-of (drop read q)) (drop 3 (drop read q)) ≡ w = sym (chain ∙ sized-links (drop read q) e (λ z. omega (arith, z, some))) in
+      rw (first, links) t
+
+  short-links : length w + 3 ≡ size
+  short-links =
+      let nonzero : size ≡ 0 → ⊥ = λ z. omega (arith, z, some) in
+      let f = sized (drop read q) e nonzero in
+      let fits : links-of (drop read q) ≤ length (drop 3 (drop read q)) = omega (arith, f .1, length-drop 3 (drop read q)) in
+      let taken = ap (λ (s : List ℕ). length s) (chain ∙ sized-links (drop read q) e nonzero) in
+      omega (arith, f .0, taken, length-take-le (links-of (drop read q)) (drop 3 (drop read q)) fits)
+
+-- tables that a question is not refused for have a name
+pub passed-named : (names r : ℕ) (w : Chain) → query-for names r w ≡ ok tt → names ≡ 0 → ⊥
+passed-named names r w passed z = omega (arith, z, ltb-true 0 names (demand-test (ltb 0 names) 12 0 (question names r w) tt passed))
 
 module _ {heads moves : List ℕ} {names stamp : ℕ} {space : List ℕ} (ready : Ready heads moves names stamp space) where
   -- with a newer stamp
@@ -147,22 +171,6 @@ module _ {heads moves : List ℕ} {names stamp : ℕ} {space : List ℕ} (ready 
   -- one question is answered, by its bytes
   module _ (q : List ℕ) (read : ℕ) {size : ℕ} (e : size ≡ whole-size (drop read q)) (some : 0 < size) {r : ℕ} (role : r ≡ getD q read 0)
       {w : Chain} (chain : w ≡ between 3 size (drop read q)) where
-    answered-as : (byte : ℕ) → Answered heads moves r w (told byte)
-        → Answered heads moves (getD (drop read q) 0 0) (take (links-of (drop read q)) (drop 3 (drop read q))) (told byte)
-    answered-as byte t =
-        let front : read + 0 ≡ read = omega arith in
-        let first : getD (drop read q) 0 0 ≡ r = getD-drop read q 0 0 ∙ ap (λ (i : ℕ). getD q i 0) front ∙ sym role in
-        let links : take (links-of (drop read q)) (drop 3 (drop read q)) ≡ w = sym (chain ∙ sized-links (drop read q) e (λ z. omega (arith, z, some))) in
-        rw (first, links) t
-
-    short-links : length w + 3 ≡ size
-    short-links =
-        let nonzero : size ≡ 0 → ⊥ = λ z. omega (arith, z, some) in
-        let f = sized (drop read q) e nonzero in
-        let fits : links-of (drop read q) ≤ length (drop 3 (drop read q)) = omega (arith, f .1, length-drop 3 (drop read q)) in
-        let taken = ap (λ (s : List ℕ). length s) (chain ∙ sized-links (drop read q) e nonzero) in
-        omega (arith, f .0, taken, length-take-le (links-of (drop read q)) (drop 3 (drop read q)) fits)
-
     query-is : query heads moves r w ≡ query-for names r w
     query-is = query-names heads moves r w (ready .named)
 
@@ -170,20 +178,17 @@ module _ {heads moves : List ℕ} {names stamp : ℕ} {space : List ℕ} (ready 
       pub asked-refused : (cause ≡ 0 → ⊥) → Asked heads moves names (drop read q) cause (stamp + size) space
       asked-refused bad =
           let f = cause-some names r w found bad in
-          record { answered = answered-as cause (rw (told-refused cause (f .0)) (refuses cause 0 (query-is ∙ f .1))); ready = ready-later (stamp + size) (omega arith) }
+          record { answered = answered-as q read e some role chain (Answered heads moves) cause (rw (told-refused cause (f .0)) (refuses cause 0 (query-is ∙ f .1))); ready = ready-later (stamp + size) (omega arith) }
 
       module _ (good : cause ≡ 0) {h : ℕ} (head : h ≡ getD heads (name r) 0) where
         passed : query heads moves r w ≡ ok tt
         passed = query-is ∙ cause-none names r w found good
 
-        named : names ≡ 0 → ⊥
-        named z = omega (arith, z, ltb-true 0 names (demand-test (ltb 0 names) 12 0 (question names r w) tt (cause-none names r w found good)))
-
         pub ready-readable : stamp ≤ 64000 → Readable moves 2048 stamp h w space
         ready-readable early =
             let a = askable heads moves r w passed head in
             record {
-              prepared = record { unused = ready .unused; indexed = ready .indexed named };
+              prepared = record { unused = ready .unused; indexed = ready .indexed (passed-named names r w (cause-none names r w found good)) };
               letters = a .letters;
               inside = omega (arith, a .low);
               early = early;
@@ -193,14 +198,14 @@ module _ {heads moves : List ℕ} {names stamp : ℕ} {space : List ℕ} (ready 
           ready-after : Ready heads moves names (stamp + size) space′
           ready-after =
               record {
-                unused = unused-later (stamp + size) (omega (arith, short-links)) (left .unused);
+                unused = unused-later (stamp + size) (omega (arith, short-links q read e some role chain)) (left .unused);
                 named = ready .named;
                 indexed = λ some. left .indexed;
               }
 
           decided : (b : Bool) → Reflects b (Accepts heads moves r w) → Asked heads moves names (drop read q) (boolByte b) (stamp + size) space′
-          decided true d = record { answered = answered-as 1 (yes passed (d .holds refl)); ready = ready-after }
-          decided false d = record { answered = answered-as 0 (no passed (d .fails refl)); ready = ready-after }
+          decided true d = record { answered = answered-as q read e some role chain (Answered heads moves) 1 (yes passed (d .holds refl)); ready = ready-after }
+          decided false d = record { answered = answered-as q read e some role chain (Answered heads moves) 0 (no passed (d .fails refl)); ready = ready-after }
 
           pub asked-decided : {b : Bool} → Reflects b (Leads moves h (asked r w) (h + 1)) → Asked heads moves names (drop read q) (boolByte b) (stamp + size) space′
           asked-decided {b} d = decided b (accepted heads moves r w passed head d)

@@ -4,6 +4,7 @@ ghost use mathlib.Core.Path.{_≡_};
 ghost use Prim.Native.Nat.{_+_, _<_, _≤_};
 ghost use lib.ListN.{drop, replicate};
 ghost use Rattle.query_causes.specs.ManyQueries.{whole-size};
+ghost use Rattle.query_causes.specs.Query.{Answered};
 ghost use Rattle.query_answerer.specs.Batch.{Ready, Asked, Batches};
 use crate::index::fill;
 use crate::reading::run;
@@ -24,7 +25,7 @@ pub struct Batch {
 // Answers the whole questions at the front of the input, with a byte each, as many as there is room for: 0 for no, 1 for yes, else the number of the
 // cause, 12 to 14, that refuses the question. Bytes after the answers keep their values.
 pub fn ask_all(heads: &[u16], moves: &[u16], input: &[u8], answers: &mut [u8]) -> Batch
-    ensures { λ r. ⌜ Batches (now (heads .entry)) (now (moves .entry)) (now (input .entry)) (now (answers .entry)) (now (answers .exit)) r ⌝ }
+    ensures { λ r. ⌜ Batches (Answered (now (heads .entry)) (now (moves .entry))) (now (input .entry)) (now (answers .entry)) (now (answers .exit)) r ⌝ }
 {
     let mut space = [0u16; 15360];
     let names = prepare(heads, moves, &mut space);
@@ -54,7 +55,7 @@ fn answer_each(
     space: &mut [u16],
 ) -> Batch
     requires { ⌜ Ready (now heads) (now moves) names 1 (now space) ⌝ }
-    ensures { λ r. ⌜ Batches (now (heads .entry)) (now (moves .entry)) (now (input .entry)) (now (answers .entry)) (now (answers .exit)) r ⌝ }
+    ensures { λ r. ⌜ Batches (Answered (now (heads .entry)) (now (moves .entry))) (now (input .entry)) (now (answers .entry)) (now (answers .exit)) r ⌝ }
 {
     let mut stamp = 1;
     let mut read = 0;

@@ -82,16 +82,16 @@ stops-by (inr (inr h)) broken = no-number h
 
 -- what answers of a batch say of its questions
 module _ (hs ms : List ℕ) where
-  batched-within : (s : List ℕ) (n : ℕ) (bytes : List ℕ) → Batched hs ms s n bytes → n ≤ length s
+  batched-within : (s : List ℕ) (n : ℕ) (bytes : List ℕ) → Batched (Answered hs ms) s n bytes → n ≤ length s
   batched-within _ _ _ (none s) = omega arith
   batched-within _ _ _ (more s byte n bytes w a b) = omega (arith, w, batched-within _ n bytes b, length-drop (3 + (getD s 1 0 + 256 * getD s 2 0)) s)
 
-  batched-some : (s : List ℕ) (n : ℕ) (bytes : List ℕ) → Batched hs ms s n bytes → 0 < length bytes → 0 < n
+  batched-some : (s : List ℕ) (n : ℕ) (bytes : List ℕ) → Batched (Answered hs ms) s n bytes → 0 < length bytes → 0 < n
   batched-some _ _ _ (none s) l = absurd (let f : ⊥ = omega (arith, l) in f)
   batched-some _ _ _ (more s byte n bytes w a b) l = omega arith
 
   -- with room and numbers for their lines, the answers are the front of a block
-  batched-completes : (s : List ℕ) (n : ℕ) (bytes : List ℕ) → Batched hs ms s n bytes → (k room : ℕ) (lines : List ℕ) (k′ : ℕ) (rest : List ℕ)
+  batched-completes : (s : List ℕ) (n : ℕ) (bytes : List ℕ) → Batched (Answered hs ms) s n bytes → (k room : ℕ) (lines : List ℕ) (k′ : ℕ) (rest : List ℕ)
       → 64 * length bytes ≤ room → k + length bytes ≤ 18446744073709551615
       → Block (Answered hs ms) (k + length bytes) (drop n s) (room - length (answer-lines k bytes)) lines k′ rest
       → Block (Answered hs ms) k s room (answer-lines k bytes ++ lines) k′ rest
@@ -139,8 +139,8 @@ module _ {hs ms q out out′ : List ℕ} {k k′ read written most : ℕ} (a : A
 
   -- one more batch, whose answers are lent the first `most` bytes of a buffer
   module _ (buffer : List ℕ) (long : length buffer ≡ 1024) {answers : List ℕ} {b : Batch}
-      (lent : Batches hs ms (take (length q - read) (drop read q)) (take most buffer) answers b) where
-    batch : Batches hs ms (drop read q) (take most buffer) answers b
+      (lent : Batches (Answered hs ms) (take (length q - read) (drop read q)) (take most buffer) answers b) where
+    batch : Batches (Answered hs ms) (drop read q) (take most buffer) answers b
     batch = rw (take-all (length q - read) (drop read q) (omega (arith, length-drop read q))) at lent
 
     lent-size : length (take most buffer) ≡ most

@@ -4,13 +4,14 @@ use Prim.Native.Nat.{_-_}
 use native.Mathlib.Omega.{arith}
 use borrow.Author.Needs.{needs}
 use lib.ListN.{length}
+use Rattle.query_causes.specs.Query.{Answered}
 use Rattle.query_answerer.specs.Batch.{Ready, Going}
 use Rattle.query_answerer.specs.BatchLaws.{whole-fits, ready-renewed, going-none, going-next, going-full, going-broken}
 use Rattle.query_answerer.proofs.batch.answer_each.Statement.{statement}
 use Rattle.query_answerer.proofs.batch.answer_each.Tie as tie
 
 abbrev Inv-loop : tie.InvT-loop
-Inv-loop heads moves names input answers₀ space₀ stamp₀ read₀ answered₀ answers space stamp read answered = Going heads moves input answers₀ read answered answers × (Ready heads moves names stamp space × (length space ≡ length space₀))
+Inv-loop heads moves names input answers₀ space₀ stamp₀ read₀ answered₀ answers space stamp read answered = Going (Answered heads moves) input answers₀ read answered answers × (Ready heads moves names stamp space × (length space ≡ length space₀))
 
 abbrev μ-loop : tie.MeasureT-loop
 μ-loop heads moves names input answers₀ space₀ stamp₀ read₀ answered₀ answers space stamp read answered = length answers₀ - answered
@@ -67,7 +68,7 @@ answer-each-spec =
     (tie.spec
     Inv-loop
     μ-loop
-    (λ c. (going-none _ _ _ _, (c .before .before .before .before .before .pre, refl)))
+    (λ c. (going-none _ _ _, (c .before .before .before .before .before .pre, refl)))
     (λ c κs. search needs)
     (λ c κs. c .before .before .before .before .loop .inv .1 .0 .unused)
     answer-requires
