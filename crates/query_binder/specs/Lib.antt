@@ -7,3 +7,5 @@ pub mod Hops
 pub mod HopsLaws
 pub mod Reaching
 pub mod ReachingLaws
+pub mod TrailBatch
+pub mod TrailBatchLaws

@@ -2,12 +2,13 @@
 ghost use Prim.Native.Nat.{_+_, _<_, _≤_};
 ghost use Rattle.base.specs.Reflects.{Reflects};
 ghost use Rattle.networks.specs.LaidChain.{laid};
-ghost use Rattle.table_trails.specs.TableTrails.{Leads};
+ghost use Rattle.table_trails.specs.TableTrails.{Leads, begin, end};
 ghost use Rattle.query_causes.specs.Query.{transitions-in};
 ghost use Rattle.query_binder.specs.Hops.{Ground};
 ghost use Rattle.query_binder.specs.PairSets.{Unused};
 use crate::hops::visit;
 use crate::pairs::put;
+use role_bytes::is_inverse;
 
 // Whether hops lead from the state `head` at one place to the next state at another. The set has the given stamp.
 pub(crate) fn weave(
@@ -38,4 +39,27 @@ pub(crate) fn weave(
         i += 1;
     }
     pairs[mark] == stamp
+}
+
+// Whether hops lead from the state `head` where the chain is asked from to the next state where it is asked to: from its first place to its last for a name, the
+// other way for the inverse of a name.
+pub(crate) fn binds(
+    moves: &[u16],
+    index: &[u16],
+    role: u8,
+    chain: &[u8],
+    head: usize,
+    stamp: u16,
+    pairs: &mut [u16],
+) -> bool
+    requires { ⌜ Ground (now moves) (now index) (now chain) ⌝ }
+    requires { ⌜ head < 2047 ⌝ }
+    requires { ⌜ Unused stamp (now pairs) ⌝ }
+    ensures { λ r. ⌜ Reflects r (Leads (transitions-in (now (moves .entry))) (laid (now (chain .entry))) (head + 1) (end role (now (chain .entry))) head (begin role (now (chain .entry)))) ⌝ }
+    ensures { λ _. ⌜ Unused (stamp + 1) (now (pairs .exit)) ⌝ }
+{
+    if is_inverse(role) {
+        return weave(moves, index, chain, head, chain.len(), 0, stamp, pairs);
+    }
+    weave(moves, index, chain, head, 0, chain.len(), stamp, pairs)
 }

@@ -1,0 +1,21 @@
+-- Tables that many questions are put to, checked and indexed once.
+use mathlib.Core.List.{List}
+use mathlib.Core.Path.{_≡_}
+use Prim.Native.Nat.{ℕ}
+use lib.ListN.{getD, take, drop}
+use Rattle.query_answerer.specs.Batch.{told}
+use Rattle.query_causes.specs.Input.{links-of}
+use Rattle.query_causes.specs.ManyQueries.{names-in}
+use Rattle.query_simulation.specs.Transitions.{transition-count}
+use Rattle.query_binder.specs.TrailIndex.{Indexed}
+use Rattle.query_binder.specs.TrailQuery.{AnsweredByTrails}
+
+module _ (heads moves : List ℕ) where
+  -- how many names the tables have, 0 where they do not fit; those that fit are indexed
+  pub record Tabled (names : ℕ) (index : List ℕ) : Type 0 where
+    pub named : names ≡ names-in heads moves
+    pub indexed : (names ≡ 0 → ⊥) → Indexed moves index (transition-count moves)
+
+  -- the byte answers the question at the front of s
+  abbrev pub AnsweredAt : (s : List ℕ) (byte : ℕ) → Type 0
+  AnsweredAt s byte = AnsweredByTrails heads moves (getD s 0 0) (take (links-of s) (drop 3 s)) (told byte)
