@@ -1,7 +1,7 @@
 -- The hops of a pair over a chain that is laid, kind by kind: what is to be added to a set of pairs.
 use mathlib.Core.List.{List}
 use mathlib.Core.Path.{_≡_}
-use Prim.Native.Nat.{ℕ, suc, _+_, _-_, _/_, _%_, _<_, _≤_}
+use Prim.Native.Nat.{ℕ, suc, _-_, _/_, _%_, _<_, _≤_}
 use lib.ListN.{length, getD}
 use Rattle.roles.specs.Role.{Chain, inv}
 use Rattle.networks.specs.LaidChain.{laid}

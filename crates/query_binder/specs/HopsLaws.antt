@@ -1,14 +1,13 @@
 -- Laws of hops: a walk along a list of the index adds the hops by one label; those by silent transitions, ahead and back are all the hops of a pair.
 use mathlib.Core.List.{List}
 use mathlib.Core.Logic.{_⊎_, inl, inr}
-use mathlib.Core.Path.{_≡_, refl, sym, ap, _∙_}
-use Prim.Native.Nat.{ℕ, suc, _+_, _*_, _-_, _/_, _%_, _<_, _≤_}
+use mathlib.Core.Path.{_≡_, refl}
+use Prim.Native.Nat.{ℕ, suc, _+_, _-_, _/_, _%_, _<_, _≤_}
 use native.Mathlib.Omega.{arith}
 use lib.ListN.{length, getD}
 use Rattle.roles.specs.Role.{Chain, inv}
 use Rattle.networks.specs.LaidChain.{laid}
 use Rattle.networks.specs.LaidChainLaws.{laid-member, laid-place}
-use Rattle.networks.specs.Network.{Link}
 use Rattle.tables.specs.Tables.{epsilon}
 use Rattle.table_trails.specs.TableTrails.{Hop}
 use Rattle.table_trails.specs.TableTrails.Hop.{quiet, ahead, back}
@@ -16,7 +15,7 @@ use Rattle.linked_lists.specs.LinkedLists.{Latest}
 use Rattle.linked_lists.specs.LinkedListsLaws as linked
 use Rattle.query_causes.specs.Query.{transitions-in}
 use Rattle.query_simulation.specs.TransitionIndex.{slot, slot-at}
-use Rattle.query_simulation.specs.Transitions.{from-at, label-at, to-at, transition-count, Arrow}
+use Rattle.query_simulation.specs.Transitions.{from-at, label-at, to-at, transition-count}
 use Rattle.query_simulation.specs.TransitionsLaws.{Numbered, arrow-at, numbered}
 use Rattle.query_binder.specs.PairSets.{pair, PairSet, Gains}
 use Rattle.query_binder.specs.PairSetsLaws.{gains-none, gains-as, gains-on}
@@ -90,9 +89,10 @@ module _ {moves index : List ℕ} (indexed : Indexed moves index (transition-cou
       to-by y h =
           let low : to-at moves (h .number) < 2048 = indexed .fit (h .number) (h .inside) .to-fits in
           let label : label-at moves (h .number) ≡ a = h .meets .0 in
-          let from : from-at moves (h .number) ≡ p = omega (arith, h .own, label) in
-          (place-of y (to-at moves (h .number)) i low (h .meets .1),
-            rw (state-of y (to-at moves (h .number)) i low (h .meets .1), ← from, ← label) (arrow-at moves (h .number) (h .inside)))
+          let from : from-at moves (h .number) ≡ p = omega (arith, h .own, label) in (
+            place-of y (to-at moves (h .number)) i low (h .meets .1),
+            rw (state-of y (to-at moves (h .number)) i low (h .meets .1), ← from, ← label) (arrow-at moves (h .number) (h .inside)),
+          )
 
       from-by : (y : ℕ) → By moves p a i y → Listed moves p a i 0 y
       from-by y h =

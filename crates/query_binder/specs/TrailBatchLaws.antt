@@ -1,17 +1,17 @@
 -- How a question is answered by trails: its ends, its refusals, and what the hops say.
 use mathlib.Core.Bool.{Bool, true, false}
 use mathlib.Core.List.{List}
-use mathlib.Core.Path.{_≡_, refl, sym, ap, _∙_}
+use mathlib.Core.Path.{_≡_, refl, ap, _∙_}
 use Prim.Native.Nat.{ℕ, _+_, _<_, _≤_}
 use native.Mathlib.Omega.{arith}
 use borrow.Author.Tests.{le-leb, lt-leb}
 use lib.Dec.{eqb}
-use lib.ListN.{length, getD, drop, replicate}
+use lib.ListN.{length, getD, drop}
 use mir.Val.{boolByte}
 use Rattle.base.specs.Decision.Decision.{refuses, yes, no}
 use Rattle.base.specs.Reflects.{Reflects}
 use Rattle.base.specs.Result.{Result, and-then}
-use Rattle.base.specs.Result.Result.{refused, ok}
+use Rattle.base.specs.Result.Result.{ok}
 use Rattle.roles.specs.Role.{Chain, name, polarity}
 use Rattle.byte_parts.specs.Bytes.{between}
 use Rattle.networks.specs.LaidChain.{laid}
@@ -24,7 +24,6 @@ use Rattle.query_answerer.specs.Batch.{told}
 use Rattle.query_answerer.specs.BatchLaws.{named-tables, told-refused, answered-as, passed-named}
 use Rattle.query_binder.specs.Hops.{Ground}
 use Rattle.query_binder.specs.TrailBatch.{Tabled, AnsweredAt}
-use Rattle.query_binder.specs.TrailIndex.{Indexed}
 use Rattle.query_binder.specs.TrailQuery.{short-chain, short-query, AnsweredByTrails}
 
 -- from where to where a chain is asked, as the test of the role tells
@@ -39,17 +38,9 @@ module _ (moves : List ℕ) (r : ℕ) (w : Chain) (h : ℕ) {t : Bool} (test : t
   unfolding begin end
   ends-name e d = rw (← test, e) d
 
--- tables that fit, and are indexed, or do not fit
-module _ (heads moves : List ℕ) {names : ℕ} (e : names ≡ names-in heads moves) where
-  pub tabled-none : names ≡ 0 → {index : List ℕ} → Tabled heads moves 0 index
-  tabled-none z = record { named = sym z ∙ e; indexed = λ some. absurd (some refl) }
-
-  module _ (some : names ≡ 0 → ⊥) where
-    pub tables-fill : Fit 2048 moves × (transition-count moves ≤ 5120)
-    tables-fill = let t = named-tables heads moves e some in (t .fit, omega (arith, t .few))
-
-    pub tabled-some : {index : List ℕ} → Indexed moves index (transition-count moves) → Tabled heads moves names index
-    tabled-some i = record { named = e; indexed = λ some. i }
+-- tables that have a name fit
+pub tables-fill : (heads moves : List ℕ) {names : ℕ} → names ≡ names-in heads moves → (names ≡ 0 → ⊥) → Fit 2048 moves × (transition-count moves ≤ 5120)
+tables-fill heads moves e some = let t = named-tables heads moves e some in (t .fit, omega (arith, t .few))
 
 -- one question, by its bytes
 module _ {heads moves index : List ℕ} {names : ℕ} (tabled : Tabled heads moves names index) (q : List ℕ) (read : ℕ) {size : ℕ}

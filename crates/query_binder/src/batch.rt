@@ -1,7 +1,7 @@
 // Many questions put to the same tables, which are checked and indexed once. The questions follow one another as on the program's input: role byte,
 // number of links (16 bits, low byte first), links.
 ghost use mathlib.Core.Path.{_≡_};
-ghost use Prim.Native.Nat.{_+_, _<_, _≤_};
+ghost use Prim.Native.Nat.{_+_, _<_};
 ghost use lib.ListN.{drop, replicate};
 ghost use Rattle.query_answerer.specs.Batch.{Batches};
 ghost use Rattle.query_causes.specs.ManyQueries.{whole-size};
@@ -66,17 +66,7 @@ fn answer_each(
             break;
         }
         let newest = renew(pairs, stamp);
-        answers[answered] = answer(
-            heads,
-            moves,
-            index,
-            names,
-            input,
-            read,
-            size,
-            newest,
-            pairs,
-        );
+        answers[answered] = answer(heads, moves, index, names, input, read, size, newest, pairs);
         stamp = newest + 1;
         read += size;
         answered += 1;

@@ -1,5 +1,4 @@
 // The hops of a pair: by silent transitions at its place, by letters along the next link and along the link before, backwards.
-ghost use mathlib.Core.Path.{_≡_};
 ghost use Prim.Native.Nat.{_<_, _≤_};
 ghost use Rattle.query_simulation.specs.Transitions.{transition-count, Fit};
 ghost use Rattle.query_binder.specs.Hops.{Meets, By, Ahead, Back, Hops, Ground};

@@ -1,37 +1,33 @@
+-- `ahead` meets its contract: where there is a next link, the hops along it are those by its role.
 use native.Mathlib.Omega.{arith}
-use Rattle.query_binder.specs.HopsLaws.{gains-ahead, ahead-none}
 use borrow.Author.Needs.{needs}
+use Rattle.query_binder.specs.HopsLaws.{gains-ahead, ahead-none}
 use Rattle.query_binder.proofs.hops.ahead.Statement.{statement}
 use Rattle.query_binder.proofs.hops.ahead.Tie as tie
-use Rattle.query_binder.proofs.hops.ahead.Reads as reads
-use Rattle.query_binder.proofs.hops.ahead.Lts as lts
-use Rattle.query_binder.proofs.hops.spread.Reads as spread-reads
 
--- src/hops.rt:50:9
 returns : tie.Need-returns
-returns c = ahead-none (c .before .before .before .before .before .args .moves .now) (c .before .before .before .before .before .args .chain .now) (c .before .before .before .before .before .args .from) (c .before .before .before .before .before .args .place) (c .if1 .taken) (c .before .before .before .before .before .pre .1 .1)
+returns c =
+    let entry = c .before .before .before .before .before in
+    ahead-none (entry .args .moves .now) (entry .args .chain .now) (entry .args .from) (entry .args .place) (c .if1 .taken) (entry .pre .1 .1)
 
--- src/hops.rt:56:9
-shared-slice-read-spread : tie.Need-shared-slice-read-spread
-shared-slice-read-spread c = search needs
-
--- src/hops.rt:57:9
-add-spread : tie.Need-add-spread
-add-spread c = search needs
-
--- src/hops.rt:52:5
 spread-requires : tie.Need-spread-requires
-spread-requires c κs = (c .before .before .before .before .before .before .before .pre .0 .indexed, ((c .before .before .before .before .before .before .before .pre .1 .0, omega (arith, c .before .before .before .before .before .before .before .pre .0 .few, c .before .before .if1 .left)), c .before .before .before .before .before .before .before .pre .1 .1))
+spread-requires c κs =
+    let entry = c .before .before .before .before .before .before .before in
+    (entry .pre .0 .indexed, ((entry .pre .1 .0, omega (arith, entry .pre .0 .few, c .before .before .if1 .left)), entry .pre .1 .1))
 
--- src/hops.rt:34:1
-same-length : tie.Need-same-length
-same-length c = search needs
-
--- src/hops.rt:34:1
 returns-2 : tie.Need-returns-2
-returns-2 c = let inside = c .before .before .before .before .before .if1 .left in gains-ahead (c .before .before .before .before .before .before .before .before .before .before .args .moves .now) (c .before .before .before .before .before .before .before .before .before .before .args .chain .now) (c .before .before .before .before .before .before .before .before .before .before .args .from) (c .before .before .before .before .before .before .before .before .before .before .args .place) (omega (arith, inside)) (c .before .before .before .before .before .before .before .before .before .before .pre .0 .small (c .before .before .before .before .before .before .before .before .before .before .args .place) (omega (arith, inside))) (c .before .before .spread .ensures)
+returns-2 c =
+    let entry = c .before .before .before .before .before .before .before .before .before .before in
+    let at-if = c .before .before .before .before .before in
+    let inside = at-if .if1 .left in gains-ahead (entry .args .moves .now) (entry .args .chain .now) (entry .args .from) (entry .args .place) (omega (arith, inside)) (entry .pre .0 .small (entry .args .place) (omega (arith, inside))) (c .before .before .spread .ensures)
 
 pub ahead-spec : {M : Type 1} → statement M
 ahead-spec =
     tie.close
-    (tie.spec returns shared-slice-read-spread add-spread spread-requires same-length returns-2)
+    (tie.spec
+    returns
+    (λ c. search needs)
+    (λ c. search needs)
+    spread-requires
+    (λ c. search needs)
+    returns-2)

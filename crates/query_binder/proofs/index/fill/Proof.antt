@@ -1,16 +1,14 @@
+-- `fill` meets its contract. The invariant: the first k transitions are in the index.
 use mathlib.Core.Path.{_≡_, sym, ap, _∙_}
 use Prim.Native.Nat.{ℕ, _-_, _≤_}
-use lib.ListN.{length, length-set, length-replicate}
 use native.Mathlib.Omega.{arith}
 use borrow.Author.Needs.{needs}
+use lib.ListN.{length, length-set, length-replicate}
 use Rattle.query_simulation.specs.Transitions.{transition-count}
 use Rattle.query_binder.specs.TrailIndex.{Indexed}
 use Rattle.query_binder.specs.TrailIndexLaws.{indexed-none, slot-below, indexed-next}
 use Rattle.query_binder.proofs.index.fill.Statement.{statement}
 use Rattle.query_binder.proofs.index.fill.Tie as tie
-use Rattle.query_binder.proofs.index.fill.Reads as reads
-use Rattle.query_binder.proofs.index.fill.Lts as lts
-use Rattle.query_binder.proofs.index.list_at.Reads as list-at-reads
 
 abbrev Inv-loop : tie.InvT-loop
 Inv-loop moves index₀ count k₀ index k = (k ≤ count) × Indexed moves index k
@@ -18,69 +16,70 @@ Inv-loop moves index₀ count k₀ index k = (k ≤ count) × Indexed moves inde
 abbrev μ-loop : tie.MeasureT-loop
 μ-loop moves index₀ count k₀ index k = count - k
 
--- src/index.rt:19:5
 loop-holds : tie.Need-loop-holds Inv-loop μ-loop
 loop-holds c = (omega arith, indexed-none (c .before .before .pre .0) (c .before .before .pre .1 .0) (c .before .before .pre .1 .1))
 
--- src/index.rt:20:13
-list-at-requires : tie.Need-list-at-requires Inv-loop μ-loop
-list-at-requires c κs = search needs
-
--- src/index.rt:21:27
 mul-index : tie.Need-mul-index Inv-loop μ-loop
-mul-index c = omega (arith, c .list-at .ensures, slot-below (c .before .before .before .before .before .pre .0) (c .before .loop-test .taken))
+mul-index c =
+    let entry = c .before .before .before .before .before in
+    omega (arith, c .list-at .ensures, slot-below (entry .pre .0) (c .before .loop-test .taken))
 
--- src/index.rt:21:27
 slice-read-index : tie.Need-slice-read-index Inv-loop μ-loop
-slice-read-index c = omega (arith, c .before .list-at .ensures, slot-below (c .before .before .before .before .before .before .pre .0) (c .before .before .loop-test .taken), c .before .before .before .loop .inv .1 .size)
+slice-read-index c =
+    let entry = c .before .before .before .before .before .before in
+    omega (arith, c .before .list-at .ensures, slot-below (entry .pre .0) (c .before .before .loop-test .taken), c .before .before .before .loop .inv .1 .size)
 
--- src/index.rt:21:15
 add-index : tie.Need-add-index Inv-loop μ-loop
-add-index c = omega (arith, c .before .before .loop-test .taken, c .before .before .before .before .before .before .pre .1 .0)
+add-index c =
+    let entry = c .before .before .before .before .before .before in
+    omega (arith, c .before .before .loop-test .taken, entry .pre .1 .0)
 
--- src/index.rt:21:9
 mul-index-2 : tie.Need-mul-index-2 Inv-loop μ-loop
-mul-index-2 c = omega (arith, c .before .before .loop-test .taken, c .before .before .before .before .before .before .pre .1 .0)
+mul-index-2 c =
+    let entry = c .before .before .before .before .before .before in
+    omega (arith, c .before .before .loop-test .taken, entry .pre .1 .0)
 
--- src/index.rt:21:9
 slice-write-index : tie.Need-slice-write-index Inv-loop μ-loop
-slice-write-index c = omega (arith, c .before .before .loop-test .taken, c .before .before .before .before .before .before .pre .1 .0, c .before .before .before .loop .inv .1 .size)
+slice-write-index c =
+    let entry = c .before .before .before .before .before .before in
+    omega (arith, c .before .before .loop-test .taken, entry .pre .1 .0, c .before .before .before .loop .inv .1 .size)
 
--- src/index.rt:22:24
 add-index-2 : tie.Need-add-index-2 Inv-loop μ-loop
-add-index-2 c = omega (arith, c .before .before .loop-test .taken, c .before .before .before .before .before .before .pre .1 .0)
+add-index-2 c =
+    let entry = c .before .before .before .before .before .before in
+    omega (arith, c .before .before .loop-test .taken, entry .pre .1 .0)
 
--- src/index.rt:22:23
 cast-index : tie.Need-cast-index Inv-loop μ-loop
-cast-index c = omega (arith, c .before .before .loop-test .taken, c .before .before .before .before .before .before .pre .1 .0)
+cast-index c =
+    let entry = c .before .before .before .before .before .before in
+    omega (arith, c .before .before .loop-test .taken, entry .pre .1 .0)
 
--- src/index.rt:22:9
 mul-index-3 : tie.Need-mul-index-3 Inv-loop μ-loop
-mul-index-3 c = omega (arith, c .before .list-at .ensures, slot-below (c .before .before .before .before .before .before .pre .0) (c .before .before .loop-test .taken))
+mul-index-3 c =
+    let entry = c .before .before .before .before .before .before in
+    omega (arith, c .before .list-at .ensures, slot-below (entry .pre .0) (c .before .before .loop-test .taken))
 
--- src/index.rt:22:9
 slice-write-index-2 : tie.Need-slice-write-index-2 Inv-loop μ-loop
-slice-write-index-2 c = simp length-set (omega (arith, c .before .list-at .ensures, slot-below (c .before .before .before .before .before .before .pre .0) (c .before .before .loop-test .taken), c .before .before .before .loop .inv .1 .size))
+slice-write-index-2 c =
+    let entry = c .before .before .before .before .before .before in
+    simp length-set (omega (arith, c .before .list-at .ensures, slot-below (entry .pre .0) (c .before .before .loop-test .taken), c .before .before .before .loop .inv .1 .size))
 
--- src/index.rt:23:9
 add-k : tie.Need-add-k Inv-loop μ-loop
-add-k c = omega (arith, c .before .before .loop-test .taken, c .before .before .before .before .before .before .pre .1 .0)
+add-k c =
+    let entry = c .before .before .before .before .before .before in
+    omega (arith, c .before .before .loop-test .taken, entry .pre .1 .0)
 
--- src/index.rt:19:5
-loop-less : tie.Need-loop-less Inv-loop μ-loop
-loop-less c = omega (arith, c .before .before .loop-test .taken)
-
--- src/index.rt:19:5
 loop-again : tie.Need-loop-again Inv-loop μ-loop
-loop-again c = (omega (arith, c .before .before .loop-test .taken), indexed-next (c .before .before .before .loop .inv .1) (c .before .before .loop-test .taken) (c .before .list-at .ensures))
+loop-again c =
+    (omega (arith, c .before .before .loop-test .taken), indexed-next (c .before .before .before .loop .inv .1) (c .before .before .loop-test .taken) (c .before .list-at .ensures))
 
--- src/index.rt:11:1
 same-length : tie.Need-same-length Inv-loop μ-loop
-same-length c = c .before .loop .inv .1 .size ∙ sym (ap length (c .before .before .before .before .pre .1 .1) ∙ length-replicate {A = ℕ} 9216 0)
+same-length c =
+    c .before .loop .inv .1 .size ∙ sym (ap length (c .before .before .before .before .pre .1 .1) ∙ length-replicate {A = ℕ} 9216 0)
 
--- src/index.rt:11:1
 returns : tie.Need-returns Inv-loop μ-loop
-returns c = let e : c .before .loop .k ≡ transition-count (c .before .before .before .before .args .moves .now) = omega (arith, c .before .loop .inv .0, c .loop-test .left) in rw e at (c .before .loop .inv .1)
+returns c =
+    let e : c .before .loop .k ≡ transition-count (c .before .before .before .before .args .moves .now) = omega (arith, c .before .loop .inv .0, c .loop-test .left) in rw e at (c .before .loop .inv .1)
 
 pub fill-spec : {M : Type 1} → statement M
 fill-spec =
@@ -89,7 +88,7 @@ fill-spec =
     Inv-loop
     μ-loop
     loop-holds
-    list-at-requires
+    (λ c κs. search needs)
     mul-index
     slice-read-index
     add-index
@@ -100,7 +99,7 @@ fill-spec =
     mul-index-3
     slice-write-index-2
     add-k
-    loop-less
+    (λ c. omega (arith, c .before .before .loop-test .taken))
     loop-again
     same-length
     returns)
