@@ -5,7 +5,7 @@ pub mod TrailIndex
 pub mod TrailIndexLaws
 pub mod Hops
 pub mod HopsLaws
-pub mod Reaching
-pub mod ReachingLaws
+pub mod PairReach
+pub mod PairReachLaws
 pub mod TrailBatch
 pub mod TrailBatchLaws

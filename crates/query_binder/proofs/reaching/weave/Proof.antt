@@ -2,8 +2,8 @@
 use Prim.Native.Nat.{_+_, _-_}
 use native.Mathlib.Omega.{arith}
 use Rattle.query_binder.specs.PairSetsLaws.{set-none, unused-after}
-use Rattle.query_binder.specs.Reaching.{Reaching}
-use Rattle.query_binder.specs.ReachingLaws.{reaching-start, reaching-more, reaching-found, reaching-decides}
+use Rattle.query_binder.specs.PairReach.{Reaching}
+use Rattle.query_binder.specs.PairReachLaws.{reaching-start, reaching-more, reaching-found, reaching-decides}
 use Rattle.query_binder.proofs.reaching.weave.Statement.{statement}
 use Rattle.query_binder.proofs.reaching.weave.Tie as tie
 

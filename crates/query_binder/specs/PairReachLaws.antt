@@ -21,7 +21,7 @@ use Rattle.query_binder.specs.Hops.{Hops}
 use Rattle.query_binder.specs.HopsLaws.{state-of, place-of}
 use Rattle.query_binder.specs.PairSets.{pair, room, Member, Gains}
 use Rattle.query_binder.specs.PairSetsLaws.{still-member, marked-decides}
-use Rattle.query_binder.specs.Reaching.{Reaching}
+use Rattle.query_binder.specs.PairReach.{Reaching}
 
 module _ {moves : List ℕ} {w : Chain} {stamp head begin : ℕ} where
   pub reaching-start : head < 2048 → {s t : List ℕ} {count : ℕ} → Gains stamp (λ y. y ≡ pair head begin) s 0 t count → Reaching moves w stamp head begin 0 t count

@@ -2,8 +2,8 @@
 use borrow.Author.Needs.{needs}
 use Rattle.query_binder.specs.PairSetsLaws.{unused-later}
 use Rattle.query_binder.specs.TrailBatchLaws.{asked-refused, asked-long, asked-ground, asked-decided}
-use Rattle.query_binder.proofs.batch.answer.Statement.{statement}
-use Rattle.query_binder.proofs.batch.answer.Tie as tie
+use Rattle.query_binder.proofs.trail_batch.answer.Statement.{statement}
+use Rattle.query_binder.proofs.trail_batch.answer.Tie as tie
 
 returns : tie.Need-returns
 returns c =

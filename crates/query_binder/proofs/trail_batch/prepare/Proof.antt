@@ -1,8 +1,8 @@
 -- `prepare` meets its contract: tables that fit are indexed.
 use borrow.Author.Needs.{needs}
 use Rattle.query_binder.specs.TrailBatchLaws.{tables-fill}
-use Rattle.query_binder.proofs.batch.prepare.Statement.{statement}
-use Rattle.query_binder.proofs.batch.prepare.Tie as tie
+use Rattle.query_binder.proofs.trail_batch.prepare.Statement.{statement}
+use Rattle.query_binder.proofs.trail_batch.prepare.Tie as tie
 
 fill-requires : tie.Need-fill-requires
 fill-requires c κs =

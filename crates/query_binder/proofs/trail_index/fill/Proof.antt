@@ -7,8 +7,8 @@ use lib.ListN.{length, length-set, length-replicate}
 use Rattle.query_simulation.specs.Transitions.{transition-count}
 use Rattle.query_binder.specs.TrailIndex.{Indexed}
 use Rattle.query_binder.specs.TrailIndexLaws.{indexed-none, slot-below, indexed-next}
-use Rattle.query_binder.proofs.index.fill.Statement.{statement}
-use Rattle.query_binder.proofs.index.fill.Tie as tie
+use Rattle.query_binder.proofs.trail_index.fill.Statement.{statement}
+use Rattle.query_binder.proofs.trail_index.fill.Tie as tie
 
 abbrev Inv-loop : tie.InvT-loop
 Inv-loop moves index₀ count k₀ index k = (k ≤ count) × Indexed moves index k

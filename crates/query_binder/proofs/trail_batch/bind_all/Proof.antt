@@ -2,8 +2,8 @@
 use mathlib.Core.Path.{refl}
 use borrow.Author.Needs.{needs}
 use Rattle.query_binder.specs.PairSetsLaws.{unused-zeros}
-use Rattle.query_binder.proofs.batch.bind_all.Statement.{statement}
-use Rattle.query_binder.proofs.batch.bind_all.Tie as tie
+use Rattle.query_binder.proofs.trail_batch.bind_all.Statement.{statement}
+use Rattle.query_binder.proofs.trail_batch.bind_all.Tie as tie
 
 pub bind-all-spec : {M : Type 1} → statement M
 bind-all-spec =

@@ -2,8 +2,8 @@
 use Prim.Native.Nat.{_+_, _*_}
 use native.Mathlib.Omega.{arith}
 use borrow.Author.Needs.{needs}
-use Rattle.query_binder.proofs.index.list_at.Statement.{statement}
-use Rattle.query_binder.proofs.index.list_at.Tie as tie
+use Rattle.query_binder.proofs.trail_index.list_at.Statement.{statement}
+use Rattle.query_binder.proofs.trail_index.list_at.Tie as tie
 
 add-result : tie.Need-add-result
 add-result c =

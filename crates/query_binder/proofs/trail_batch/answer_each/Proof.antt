@@ -7,8 +7,8 @@ use Rattle.query_answerer.specs.Batch.{Going}
 use Rattle.query_answerer.specs.BatchLaws.{whole-fits, going-none, going-next, going-full, going-broken}
 use Rattle.query_binder.specs.PairSets.{Unused}
 use Rattle.query_binder.specs.TrailQuery.{AnsweredByTrails}
-use Rattle.query_binder.proofs.batch.answer_each.Statement.{statement}
-use Rattle.query_binder.proofs.batch.answer_each.Tie as tie
+use Rattle.query_binder.proofs.trail_batch.answer_each.Statement.{statement}
+use Rattle.query_binder.proofs.trail_batch.answer_each.Tie as tie
 
 abbrev Inv-loop : tie.InvT-loop
 Inv-loop heads moves index names input answers₀ pairs₀ stamp₀ read₀ answered₀ answers pairs stamp read answered = Going (AnsweredByTrails heads moves) input answers₀ read answered answers × Unused stamp pairs
