@@ -1,10 +1,8 @@
-// Questions about the hall book in two blocks, answered by the calls that the program makes.
+// Questions about a book in two blocks, answered by the calls that the program makes.
 use byte_parts::byte;
 use byte_parts::part;
 use libc::STDOUT_FILENO;
 use transcript_writer::Tables;
-
-const HALL: [u8; 20] = *b"RLB\x01\0\x04\x03\0\0\x02\0\0\x02\x02\0\x02\x06\x02\x02\x04";
 
 // What is left of the input, and the number of the next question.
 struct Left {
@@ -13,10 +11,10 @@ struct Left {
     number: u64,
 }
 
-// Writes all that the program would write for the first `size` bytes of the questions in two blocks, of which the first has `border` bytes.
-pub(crate) fn try_blocks(questions: &[u8], border: usize, size: usize) {
+// Writes all that the program would write for a book and the first `size` bytes of the questions in two blocks, of which the first has `border` bytes.
+pub(crate) fn try_blocks(book: &[u8], questions: &[u8], border: usize, size: usize) {
     let mut line = [0u8; 72];
-    let opening = transcript_writer::open(&HALL, &mut line);
+    let opening = transcript_writer::open(book, &mut line);
     let tables = opening.tables;
     io::write_all(STDOUT_FILENO, part(&line, 0, opening.written));
     let none = Left {

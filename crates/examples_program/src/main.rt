@@ -1,20 +1,30 @@
 // Tries what the program runs: on a missing, an overlong and a refused book; on blocks whose border falls at every place, and input that ends at every
-// place; and, last, on standard input, which holds the longest question and refused chains that are read past. `stdout` holds what it must write.
+// place; on chains that bind and are not derived; and, last, on standard input, which holds the longest question, chains on either side of 16 links and
+// of 1,024, and refused chains that are read past. `stdout` holds what it must write.
 mod blocks;
 
 use blocks::try_blocks;
 use libc::STDOUT_FILENO;
 use program::Stop;
 
+const HALL: [u8; 20] = *b"RLB\x01\0\x04\x03\0\0\x02\0\0\x02\x02\0\x02\x06\x02\x02\x04";
+
 // Five questions about the hall book.
 const QUESTIONS: [u8; 26] =
     *b"\x06\x04\0\0\0\x02\x04\x06\x03\0\x02\0\x04\x07\x03\0\x05\x03\x01\x06\0\0\x06\x01\0\x08";
+
+// serves, inv(serves), serves to covers.
+const SERVES: [u8; 13] = *b"RLB\x01\0\x02\x01\0\x02\x03\0\x01\0";
+
+// serves binds covers, though it is not derived from it, and so with both inverse; covers does not bind serves, nor serves serves covers.
+const BINDING: [u8; 17] = *b"\x02\x01\0\0\x03\x01\0\x01\0\x01\0\x02\x02\x02\0\0\0";
 
 fn main() {
     try_book(b"missing file: ", b"missing.rlb");
     try_book(b"overlong file: ", b"overlong.rlb");
     try_book(b"no order: ", b"cycle.rlb");
     try_places();
+    try_binding();
     try_book(b"standard input: ", b"hall.rlb");
 }
 
@@ -48,5 +58,11 @@ fn try_place(text: &[u8], place: usize, border: usize, size: usize) {
     say(text);
     io::print_decimal(STDOUT_FILENO, place as u64);
     say(b": ");
-    try_blocks(&QUESTIONS, border, size);
+    try_blocks(&HALL, &QUESTIONS, border, size);
+}
+
+// What binds without being derived.
+fn try_binding() {
+    say(b"out and back: ");
+    try_blocks(&SERVES, &BINDING, 8, 17);
 }

@@ -11,7 +11,7 @@ use Rattle.base.specs.Result.{Result}
 use Rattle.base.specs.Result.Result.{refused}
 use Rattle.book_causes.specs.Accepted.{built, Building}
 use Rattle.query_causes.specs.Input.{Broken, is-whole}
-use Rattle.query_correctness.specs.Reply.{Decided}
+use Rattle.query_correctness.specs.BindingReply.{DecidedByBinding}
 use Rattle.transcript_lines.specs.Block.{Blocks, joined}
 use Rattle.program.specs.declared.Stop.{Stop}
 use Rattle.program.specs.declared.Stop.the-variants.{Refused, Ended, Unwritten, Exhausted}
@@ -36,7 +36,7 @@ pub data Served (Says : ℕ → Chain → Result Bool → Type 0) : Stop → Typ
 -- why the program stops
 pub data Ran : Stop → Type 0 where
   refuses : (s : List ℕ) (cause value : ℕ) → built s 64 15360 ≡ refused cause value → Ran Refused
-  opened : {r : Stop} (s : List ℕ) (b d : Book) → Building s 64 15360 b d → Served (Decided b) r → Ran r
+  opened : {r : Stop} (s : List ℕ) (b d : Book) → Building s 64 15360 b d → Served (DecidedByBinding b) r → Ran r
   unwritten : Ran Unwritten
 
 -- one read after the bytes that are kept, which stay: the bytes in the buffer then end at r. Where a whole question is left, nothing is read

@@ -16,9 +16,9 @@ use Rattle.base.specs.Result.{Result}
 use Rattle.base.specs.Result.Result.{refused, ok}
 use Rattle.book_causes.specs.Accepted.{built}
 use Rattle.book_causes.specs.AcceptedLaws.{building}
-use Rattle.query_causes.specs.Query.{Answered}
 use Rattle.query_causes.specs.Input.{Broken, is-whole}
-use Rattle.query_correctness.specs.Reply.{Decided}
+use Rattle.query_correctness.specs.TrailQuery.{AnsweredByTrails}
+use Rattle.query_correctness.specs.BindingReply.{DecidedByBinding}
 use Rattle.transcript_lines.specs.Block.{Block, Blocks, joined}
 use Rattle.transcript_lines.specs.Block.Blocks.{none, more}
 use Rattle.transcript_lines.specs.BlockLaws.{block-counts, block-goes}
@@ -127,10 +127,10 @@ module _ {Says : ℕ → Chain → Result Bool → Type 0} where
   serving-exhausted s (inr h) = exhausted (s .answered) (omega (arith, h))
 
 -- a block that is read and answered
-module _ {hs ms q q′ q″ out out′ : List ℕ} {k kept end turns : ℕ} {left : Bool} {p : Progress} where
-  pub serving-block : Serving (Answered hs ms) k (take kept q) left turns → 0 < turns → k < 18446744073709551615 → Reads left kept q q′ end
-      → (left ≡ true) ⊎ (kept < end) → AnswersBlock hs ms k q′ end out q″ out′ p → 64 ≤ length out
-      → Serving (Answered hs ms) (p .number) (take (p .kept) q″) (p .left) (turns - 1)
+module _ {Says : ℕ → Chain → Result Bool → Type 0} {q q′ q″ out out′ : List ℕ} {k kept end turns : ℕ} {left : Bool} {p : Progress} where
+  pub serving-block : Serving Says k (take kept q) left turns → 0 < turns → k < 18446744073709551615 → Reads left kept q q′ end
+      → (left ≡ true) ⊎ (kept < end) → AnswersBlock Says k q′ end out q″ out′ p → 64 ≤ length out
+      → Serving Says (p .number) (take (p .kept) q″) (p .left) (turns - 1)
   serving-block s some few r goes a space =
       let block : List ℕ = drop kept (take end q′) in
       let front : take end q′ ≡ take kept q ++ block =
@@ -146,7 +146,8 @@ module _ {hs ms q q′ q″ out out′ : List ℕ} {k kept end turns : ℕ} {lef
 
 -- what opening a book says of the run
 module _ {s h m line line′ : List ℕ} {o : Opening} (p : Opens s h m line line′ o) where
-  by-book : (b : Book) → built s 64 15360 ≡ ok b → {r : Stop} → Served (Answered (heads-in (o .tables)) (moves-in (o .tables))) r → Served (Decided b) r
+  by-book : (b : Book) → built s 64 15360 ≡ ok b → {r : Stop} → Served (AnsweredByTrails (heads-in (o .tables)) (moves-in (o .tables))) r
+      → Served (DecidedByBinding b) r
   by-book b e (ended bs l) = ended (opened-blocks p b e bs) l
   by-book b e (exhausted bs l) = exhausted (opened-blocks p b e bs) l
   by-book b e unwritten = unwritten
@@ -158,7 +159,7 @@ module _ {s h m line line′ : List ℕ} {o : Opening} (p : Opens s h m line lin
       by-result (refused c v) e = refuses s c v e
       by-result (ok b) e = absurd (true≢false (sym (p .accepted ∙ ap is-ok e) ∙ f))
 
-  pub ran-served : o .accepted ≡ true → {r : Stop} → Served (Answered (heads-in (o .tables)) (moves-in (o .tables))) r → Ran r
+  pub ran-served : o .accepted ≡ true → {r : Stop} → Served (AnsweredByTrails (heads-in (o .tables)) (moves-in (o .tables))) r → Ran r
   ran-served f {r} t = by-result (built s 64 15360) refl
     where
       by-result : (x : Result Book) → built s 64 15360 ≡ x → Ran r

@@ -6,7 +6,7 @@ ghost use Prim.Native.Nat.{_<_, _≤_};
 ghost use lib.ListN.{length, take};
 ghost use Rattle.io.specs.Counts.{Counts};
 ghost use Rattle.query_causes.specs.Input.{is-whole};
-ghost use Rattle.query_causes.specs.Query.{Answered};
+ghost use Rattle.query_correctness.specs.TrailQuery.{AnsweredByTrails};
 ghost use Rattle.transcript_writer.specs.Opened.{heads-in, moves-in};
 ghost use Rattle.program.specs.Ran.{Ran, Served, Reads, Ends};
 use libc::STDIN_FILENO;
@@ -28,7 +28,7 @@ pub enum Stop {
 }
 
 // Reads the book of that name and answers the questions about it. No promise can say what system calls read and write; this one says that what was read
-// as a book was refused or accepted, and that the blocks of input that were read were answered as document 01 lays down.
+// as a book was refused or accepted, and that the blocks of input that were read were answered as documents 01 and 02 lay down.
 pub fn run(path: &[u8]) -> Stop
     ensures { λ r. ⌜ Ran r ⌝ }
 {
@@ -66,7 +66,7 @@ fn read_book(path: &[u8], book: &mut [u8]) -> usize
 
 // Answers questions until the input ends. A proved loop has to end, so this one counts its turns down from a number that no run uses up.
 fn serve(tables: Tables) -> Stop
-    ensures { λ r. ⌜ Served (Answered (heads-in tables) (moves-in tables)) r ⌝ }
+    ensures { λ r. ⌜ Served (AnsweredByTrails (heads-in tables) (moves-in tables)) r ⌝ }
 {
     let mut input = question_buffer();
     let mut out = [0u8; 65536];

@@ -1,4 +1,3 @@
-pub mod TrailQuery
 pub mod PairSets
 pub mod PairSetsLaws
 pub mod TrailIndex

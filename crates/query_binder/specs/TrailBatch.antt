@@ -8,7 +8,7 @@ use Rattle.query_causes.specs.Input.{links-of}
 use Rattle.query_causes.specs.ManyQueries.{names-in}
 use Rattle.query_simulation.specs.Transitions.{transition-count}
 use Rattle.query_binder.specs.TrailIndex.{Indexed}
-use Rattle.query_binder.specs.TrailQuery.{AnsweredByTrails}
+use Rattle.query_correctness.specs.TrailQuery.{AnsweredByTrails}
 
 module _ (heads moves : List ℕ) where
   -- how many names the tables have, 0 where they do not fit; those that fit are indexed

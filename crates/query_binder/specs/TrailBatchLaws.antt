@@ -24,7 +24,7 @@ use Rattle.query_answerer.specs.Batch.{told}
 use Rattle.query_answerer.specs.BatchLaws.{named-tables, told-refused, answered-as, passed-named}
 use Rattle.query_binder.specs.Hops.{Ground}
 use Rattle.query_binder.specs.TrailBatch.{Tabled, AnsweredAt}
-use Rattle.query_binder.specs.TrailQuery.{short-chain, short-query, AnsweredByTrails}
+use Rattle.query_correctness.specs.TrailQuery.{short-chain, short-query, AnsweredByTrails}
 
 -- from where to where a chain is asked, as the test of the role tells
 module _ (moves : List ℕ) (r : ℕ) (w : Chain) (h : ℕ) {t : Bool} (test : t ≡ eqb (polarity r) 1) {b : Bool} where

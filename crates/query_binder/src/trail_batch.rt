@@ -7,7 +7,7 @@ ghost use Rattle.query_answerer.specs.Batch.{Batches};
 ghost use Rattle.query_causes.specs.ManyQueries.{whole-size};
 ghost use Rattle.query_binder.specs.PairSets.{Unused};
 ghost use Rattle.query_binder.specs.TrailBatch.{Tabled, AnsweredAt};
-ghost use Rattle.query_binder.specs.TrailQuery.{AnsweredByTrails};
+ghost use Rattle.query_correctness.specs.TrailQuery.{AnsweredByTrails};
 use crate::pairs::renew;
 use crate::reaching::binds;
 use crate::trail_index::fill;

@@ -1,5 +1,6 @@
 -- From a book's bytes to the answer: where a book is accepted, a question over its names with a chain of 1 to 1,024 links, put to its tables,
--- is never refused, and the path that it asks for exists exactly where finitely many replacements lead from the role to the chain.
+-- is never refused, and the path that it asks for exists exactly where finitely many replacements lead from the role to the chain. Trails lead
+-- exactly where the chain binds the role.
 use mathlib.Core.Bool.{true}
 use mathlib.Core.List.{List, [], _∷_}
 use mathlib.Core.List.List·Memᴰ.{List·Memᴰ·head}
@@ -9,18 +10,19 @@ use Prim.Native.Nat.{ℕ, _+_, _*_, _%_, _<_, _≤_}
 use native.Mathlib.Nat.{zero-add}
 use native.Mathlib.Omega.{arith}
 use borrow.Author.Tests.{le-leb, eq-eqb, ne-eqb}
-use lib.ListN.{length}
+use lib.ListN.{length, getD}
 use Rattle.roles.specs.Role.{Chain, name, polarity, inv, inv-chain}
 use Rattle.roles.specs.RoleLaws.{name-below}
 use Rattle.roles.specs.Rule.{Book}
 use Rattle.roles.specs.Named.{Named}
 use Rattle.roles.specs.Derivation.{Derives}
 use Rattle.base.specs.Truth.{eq-or-ne}
+use Rattle.networks.specs.Network.{Binds}
 use Rattle.order.specs.Regular.{Regular}
 use Rattle.tables.specs.Tables.{Transition, transitions, numbers}
 use Rattle.base.specs.Result.Result.{ok}
 use Rattle.book_format.specs.Format.{read, named}
-use Rattle.book_format.specs.ReadLaws.{read-names, read-some-name, read-few-names}
+use Rattle.book_format.specs.ReadLaws.{rules-some, read-names, read-some-name, read-few-names}
 use Rattle.book_causes.specs.OrderedRun.{ordered-read, ordered-regular}
 use Rattle.book_causes.specs.Accepted.{states-of, count-of, heads-of, moves-of, built}
 use Rattle.book_causes.specs.AcceptedLaws.{Passed, accepted-passed, built-accepted}
@@ -28,6 +30,8 @@ use Rattle.table_laying.specs.Pieces.{length-numbers, length-roots}
 use Rattle.query_causes.specs.Query.{transitions-in, heads-fit, transitions-fit, tables-fit, question, query, asked, Accepts}
 use Rattle.base.specs.Every.{Every, every-tail}
 use Rattle.table_correctness.specs.Derivable.{accepted-derives, accepted-derives-inverse}
+use Rattle.table_trails.specs.TableTrails.{TablesBind}
+use Rattle.table_trails.specs.TrailsBind.{trails-bind}
 use Rattle.query_correctness.specs.Within.{Within, roots-within, heads-within}
 
 -- the numbers of transitions spell them
@@ -140,3 +144,10 @@ module _ (s : List ℕ) (heads moves : ℕ) (b : Book) (e : built s heads moves 
       by-polarity (inr p) =
           rw (transitions-numbers (transitions (b .names) (b .rules)), asked-plain r w p)
           (rw (role-plain r p) at (accepted-derives (b .names) (b .rules) few over regular (name r) below w))
+
+  -- by trails, yes exactly where it binds
+  pub trails-bind-book : (r : ℕ) (w : Chain) → r < 2 * b .names → ((i : ℕ) → i < length w → getD w i 0 < 2 * b .names)
+      → TablesBind (heads-of b) (transitions-in (moves-of b)) r w ↔ Binds (b .rules) r w
+  trails-bind-book r w h roles =
+      rw (transitions-numbers (transitions (b .names) (b .rules)))
+      (trails-bind (b .names) (b .rules) few over regular (rules-some s b well-read) r w h roles)

@@ -9,6 +9,7 @@ use Rattle.base.specs.Result.{Result}
 use Rattle.base.specs.DecisionLaws.{same-refusal, not-both, decision-one}
 use Rattle.book_causes.specs.AcceptedLaws.{building-one}
 use Rattle.query_causes.specs.Query.{Answered}
+use Rattle.query_correctness.specs.BindingReply.{DecidedByBinding}
 use Rattle.query_correctness.specs.Reply.{Decided, Replied}
 use Rattle.query_correctness.specs.Reply.Replied.{refuses, settled}
 
@@ -19,6 +20,9 @@ answered-one heads moves r w = decision-one _ _
 -- about an accepted book
 pub decided-one : (b : Book) (r : ℕ) (w : Chain) (a a′ : Result Bool) → Decided b r w a → Decided b r w a′ → a ≡ a′
 decided-one b r w = decision-one _ _
+
+pub decided-by-binding-one : (b : Book) (r : ℕ) (w : Chain) (a a′ : Result Bool) → DecidedByBinding b r w a → DecidedByBinding b r w a′ → a ≡ a′
+decided-by-binding-one b r w = decision-one _ _
 
 -- from a book's bytes
 pub replied-one : (s : List ℕ) (heads moves r : ℕ) (w : Chain) (a a′ : Result Bool) → Replied s heads moves r w a → Replied s heads moves r w a′

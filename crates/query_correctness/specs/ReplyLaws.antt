@@ -4,7 +4,7 @@ use mathlib.Core.List.{List, _∷_}
 use mathlib.Core.Path.{_≡_, refl, sym, ap, _∙_}
 use Prim.Native.Nat.{ℕ, zero, _*_, _<_}
 use native.Mathlib.Omega.{arith}
-use lib.ListN.{getD}
+use lib.ListN.{length, getD}
 use Rattle.roles.specs.Role.{Chain}
 use Rattle.roles.specs.Rule.{Book}
 use Rattle.base.specs.Result.{Result, and-then}
@@ -23,10 +23,12 @@ use Rattle.query_correctness.specs.Reply.{Decided, Replied, posed}
 use Rattle.base.specs.Decision.Decision.{refuses, yes, no}
 use Rattle.query_correctness.specs.Reply.Replied.{refuses as refused-by-book, settled}
 
--- a role that a question passes for
+-- a question that passes has its role and its links over the names
+pub own-roles : (n r : ℕ) (w : Chain) → question n r w ≡ ok tt → (k : ℕ) → k < length (r ∷ w) → getD (r ∷ w) k 0 < 2 * n
+own-roles n r w h = named-link n (r ∷ w) (demand-test (named n (r ∷ w)) 14 0 _ tt (demand-rest (chain-fits w) 13 0 _ tt h))
+
 own-role : (n r : ℕ) (w : Chain) → question n r w ≡ ok tt → r < 2 * n
-own-role n r w h =
-    named-link n (r ∷ w) (demand-test (named n (r ∷ w)) 14 0 _ tt (demand-rest (chain-fits w) 13 0 _ tt h)) zero (omega arith)
+own-role n r w h = own-roles n r w h zero (omega arith)
 
 module _ (s : List ℕ) (heads moves : ℕ) (b : Book) (e : built s heads moves ≡ ok b) where
   -- what tables answer, derivation decides

@@ -2,6 +2,8 @@ pub mod Worked
 pub mod Checks
 pub mod PathSearch
 pub mod PathSearchLaws
-pub mod PathSearchLines
-pub mod PathSearchLinesLaws
+pub mod TrailSearch
+pub mod TrailSearchLaws
+pub mod SearchLines
+pub mod SearchLinesLaws
 pub mod WorkedLaws

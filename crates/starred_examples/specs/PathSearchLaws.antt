@@ -37,7 +37,7 @@ module _ (a : ℕ) (qs : List ℕ) where
           let e : m .label ≡ a = eqb-true (m .label) a (and-left (eqb (m .label) a) (among qs (m .to)) h) in
           law (m .from) (m .to) (List·Memᴰ·head (rw (← e) refl)) (among-member qs (m .to) (and-right (eqb (m .label) a) (among qs (m .to)) h))
 
-  predecessors-has : (p q : ℕ) {ms : List Transition} → List·Memᴰ (record { from = p; label = a; to = q }) ms → List·Memᴰ q qs
+  pub predecessors-has : (p q : ℕ) {ms : List Transition} → List·Memᴰ (record { from = p; label = a; to = q }) ms → List·Memᴰ q qs
       → List·Memᴰ p (predecessors ms a qs)
   unfolding predecessors
   predecessors-has p q (List·Memᴰ·head e) k = rw (← e, eq-eqb a a refl, member-among k) (List·Memᴰ·head refl)

@@ -8,31 +8,35 @@ use Rattle.base.specs.Truth.{and-left, and-right}
 use Rattle.roles.specs.Role.{name, polarity, inv, inv-chain, same-chain}
 use Rattle.roles.specs.RoleLaws.{same-chain-sound}
 use Rattle.roles.specs.Rule.{Book, inverse, same-rule}
+use Rattle.networks.specs.LaidChain.{laid-from}
 use Rattle.order.specs.Closure.{reaches, with-inner}
 use Rattle.order.specs.Shape.{leads, trails, shape}
 use Rattle.order.specs.Depth.{inner-roles, highest, level-of, levels-from}
 use Rattle.tables.specs.Tables.{rules-of, has-symmetric, has-transitive, shapes, row-size, rows-size, row-transitions, rows-transitions, letters, back, size-of, transitions-of, roots-from, transitions-from, states-from, numbers}
+use Rattle.table_trails.specs.TableTrails.{begin, end}
 use Rattle.base.specs.Result.{Result, map-result}
 use Rattle.base.specs.Result.Result.{refused, ok}
 use Rattle.book_format.specs.Format.{front, named, one-rule, rules-from, decode, repeats, distinct, read}
 use Rattle.book_causes.specs.Ordered.{order-from, ordered}
 use Rattle.book_causes.specs.Accepted.{depth-of, summary, heads-of, moves-of, fitting, built, written}
-use Rattle.query_causes.specs.Query.{transitions-in, heads-fit, transitions-fit, tables-fit, query, asked, Answered}
+use Rattle.query_causes.specs.Query.{transitions-in, heads-fit, transitions-fit, tables-fit, query, asked}
 use Rattle.book_causes.specs.AcceptedLaws.{building}
-use Rattle.query_correctness.specs.Reply.{Decided, Replied}
+use Rattle.query_correctness.specs.Reply.{Replied}
 use Rattle.query_correctness.specs.Reply.Replied.{refuses, settled}
 use Rattle.query_correctness.specs.ReplyLaws.{decided}
+use Rattle.query_correctness.specs.BindingReply.{DecidedByBinding}
 use Rattle.transcript_lines.specs.Lines.{decimal-from, decimal, first-line}
 use Rattle.transcript_lines.specs.Transcript.{next, Session}
 use Rattle.transcript_lines.specs.Transcript.Session.{refuses as stopped, served}
-use Rattle.transcript_lines.specs.TranscriptLaws.{transcript-map}
 use Rattle.base.specs.Every.{Every}
 use Rattle.starred_examples.specs.Worked.{Question, Example, build, examples, Holds}
 use Rattle.starred_examples.specs.Checks.{all, all-every, among, same-pair, same-triple, same-triple-sound, same-result, same-result-sound, same-answer, same-answer-sound}
 use Rattle.starred_examples.specs.PathSearch.{predecessors, closure, closed, starts, exhaustive, found, answers}
 use Rattle.starred_examples.specs.PathSearchLaws.{answers-answered}
-use Rattle.starred_examples.specs.PathSearchLines.{front-lines, lines, front-searched, searched}
-use Rattle.starred_examples.specs.PathSearchLinesLaws.{lines-transcript}
+use Rattle.starred_examples.specs.TrailSearch.{both-ways, has, add, at-places, sources, sources-by, sources-of, with-sources, reaching, hop-closed, apart, no-hops, answer, shown, sure}
+use Rattle.starred_examples.specs.TrailSearchLaws.{sure-decided}
+use Rattle.starred_examples.specs.SearchLines.{front-lines, lines, front-searched, searched}
+use Rattle.starred_examples.specs.SearchLinesLaws.{lines-transcript}
 
 -- a question has its answer, where a build gave a book or a refusal
 replies : Result Book → Question → Bool
@@ -67,12 +71,11 @@ writes-session s q out = by-result (built s 64 15360) refl
     by-result (ok b) e h =
         let fuel : ℕ = suc (length q) in
         let made : List ℕ = lines (heads-of b) (moves-of b) fuel 0 q in
-        let sure : Bool = searched (heads-of b) (moves-of b) fuel q in
+        let all-sure : Bool = searched (heads-of b) (moves-of b) fuel q in
         let same : Bool = same-chain (first-line (ok (summary b)) ++ made) out in
-        subst (Session s q) (same-chain-sound (first-line (ok (summary b)) ++ made) out (and-right sure same h))
+        subst (Session s q) (same-chain-sound (first-line (ok (summary b)) ++ made) out (and-right all-sure same h))
         (served b b made (building s 64 15360 b e)
-        (transcript-map (Answered (heads-of b) (moves-of b)) (Decided b) (decided s 64 15360 b e) 0 q made
-        (lines-transcript (heads-of b) (moves-of b) fuel 0 q (and-left sure same h))))
+        (lines-transcript (heads-of b) (moves-of b) (DecidedByBinding b) (sure-decided s 64 15360 b e) fuel 0 q (and-left all-sure same h)))
 
 -- the test of an example
 test : Example → Bool
@@ -99,9 +102,10 @@ test-holds e h =
       session = writes-session (e .book) (e .input) (e .transcript) (and-right (first && heads && questions) session h);
     }
 
--- every example passes, by evaluation of the definitions from a book's bytes to its tables, of the search in these and of the lines
+-- every example passes, by evaluation of the definitions from a book's bytes to its tables, of the searches in these and of the lines
 test-passed : all test examples ≡ true
 unfolding test replies writes examples all among same-pair same-triple same-result decide predecessors closure closed starts exhaustive found answers
+    both-ways has add at-places sources sources-by sources-of with-sources reaching hop-closed apart no-hops answer shown sure laid-from begin end
     lines front-lines searched front-searched next decimal decimal-from
     built fitting ordered order-from read decode distinct repeats rules-from one-rule front named
     inverse inv-chain inv name polarity same-rule same-chain reaches with-inner shape leads trails
@@ -111,6 +115,6 @@ unfolding test replies writes examples all among same-pair same-triple same-resu
 test-passed = refl
 
 -- every example of the table holds: from the bytes of each book, the numbers of states and transitions and the depth, or the refusal; the initial states;
--- the answer to each question, by derivation; and the bytes that the program writes for an input, such as the hall book's six lines
+-- the answer to each question, by derivation; and the bytes that the program writes for an input, by what binds, such as the hall book's six lines
 pub worked : Every Holds examples
 worked = all-every test Holds test-holds examples test-passed

@@ -14,7 +14,7 @@ use Rattle.base.specs.Result.Result.{ok}
 use Rattle.book_causes.specs.Accepted.{summary, built}
 use Rattle.book_causes.specs.AcceptedLaws.{building}
 use Rattle.query_causes.specs.Input.{links-of, Whole, Broken}
-use Rattle.query_correctness.specs.Reply.{Decided}
+use Rattle.query_correctness.specs.BindingReply.{DecidedByBinding}
 use Rattle.transcript_lines.specs.Lines.{first-line, answer-line}
 use Rattle.transcript_lines.specs.Transcript.{next, Transcript, Session}
 use Rattle.transcript_lines.specs.Transcript.Next.{nothing, part, whole}
@@ -96,7 +96,7 @@ module _ {P Q : ℕ → Chain → Result Bool → Type 0} (f : (r : ℕ) (w : Ch
 
 -- the first line, the lines of the blocks and the last line are all that is written for the joined input
 pub session-blocks : (s : List ℕ) (b : Book) → built s 64 15360 ≡ ok b → {k : ℕ} {lines kept : List ℕ} {blocks : List (List ℕ)}
-    → Blocks (Decided b) 0 [] blocks lines k kept → Broken kept
+    → Blocks (DecidedByBinding b) 0 [] blocks lines k kept → Broken kept
     → Session s (joined blocks) (first-line (ok (summary b)) ++ (lines ++ ending k kept))
 session-blocks s b e {k} {lines} {kept} bs h =
     served b b (lines ++ ending k kept) (building s 64 15360 b e) (blocks-complete bs (ending k kept) (transcript-ending k kept h))

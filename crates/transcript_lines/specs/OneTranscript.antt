@@ -11,8 +11,8 @@ use Rattle.base.specs.Result.Result.{refused, ok}
 use Rattle.base.specs.ResultLaws.{refused-ok}
 use Rattle.book_causes.specs.Accepted.{summary}
 use Rattle.book_causes.specs.AcceptedLaws.{building-one}
-use Rattle.query_correctness.specs.Reply.{Decided}
-use Rattle.query_correctness.specs.OneReply.{decided-one}
+use Rattle.query_correctness.specs.BindingReply.{DecidedByBinding}
+use Rattle.query_correctness.specs.OneReply.{decided-by-binding-one}
 use Rattle.transcript_lines.specs.Lines.{first-line, answer-line}
 use Rattle.transcript_lines.specs.Transcript.{Transcript, Session}
 use Rattle.transcript_lines.specs.Transcript.Next.{nothing, part, whole}
@@ -59,5 +59,5 @@ session-one s q _ _ (refuses c v h) (served b d lines g t) = absurd (refused-ok 
 session-one s q _ _ (served b d lines h t) (refuses c v g) = absurd (refused-ok c v d (sym g ∙ h .source))
 session-one s q _ _ (served b d lines h t) (served b′ d′ lines′ g t′) =
     let same = building-one h g in
-    let rest : lines ≡ lines′ = transcript-one (Decided b) (decided-one b) 0 q lines lines′ t (rw (← same .0) at t′) in
+    let rest : lines ≡ lines′ = transcript-one (DecidedByBinding b) (decided-by-binding-one b) 0 q lines lines′ t (rw (← same .0) at t′) in
     ap₂ (λ (x : Book) (l : List ℕ). first-line (ok (summary x)) ++ l) (same .1) rest

@@ -10,7 +10,7 @@ use Rattle.base.specs.Result.{Result}
 use Rattle.base.specs.Result.Result.{refused, ok}
 use Rattle.book_causes.specs.Accepted.{summary, built, Building}
 use Rattle.query_causes.specs.Input.{links-of, is-whole}
-use Rattle.query_correctness.specs.Reply.{Decided}
+use Rattle.query_correctness.specs.BindingReply.{DecidedByBinding}
 use Rattle.transcript_lines.specs.Lines.{first-line, answer-line, cut-line}
 
 -- what stands at the front of the input: nothing, a part of a question, or a whole one (role, chain) and the input after it
@@ -34,9 +34,9 @@ pub data Transcript (Says : ℕ → Chain → Result Bool → Type 0) : ℕ → 
   answered : (k : ℕ) (q : List ℕ) (r : ℕ) (w : Chain) (rest : List ℕ) (a : Result Bool) (lines : List ℕ) → next q ≡ whole r w rest → Says r w a
       → Transcript Says (suc k) rest lines → Transcript Says k q (answer-line k a ++ lines)
 
--- all that the program writes for a book's bytes and an input: the first line is that of the book that is built from, and the answers are those of the
--- book as written
+-- all that the program writes for a book's bytes and an input: the first line is that of the book that is built from, and the answers are by
+-- what binds under the rules of the book as written
 pub data Session (s q : List ℕ) : List ℕ → Type 0 where
   refuses : (cause value : ℕ) → built s 64 15360 ≡ refused cause value → Session s q (first-line (refused cause value))
-  served : (b d : Book) (lines : List ℕ) → Building s 64 15360 b d → Transcript (Decided b) 0 q lines
+  served : (b d : Book) (lines : List ℕ) → Building s 64 15360 b d → Transcript (DecidedByBinding b) 0 q lines
       → Session s q (first-line (ok (summary d)) ++ lines)

@@ -1,4 +1,4 @@
--- Whole questions stay whole where the input goes on, and answers by tables are answers by derivation.
+-- Whole questions stay whole where the input goes on, and answers that imply others make the same lines.
 use mathlib.Core.Bool.{Bool}
 use mathlib.Core.List.{List, [], _∷_, _++_}
 use mathlib.Core.Path.{_≡_, refl}

@@ -5,20 +5,22 @@ use mathlib.Core.Logic.{_⊎_}
 use mathlib.Core.Path.{_≡_}
 use Prim.Native.Nat.{ℕ, _+_, _-_, _*_, _<_, _≤_}
 use lib.ListN.{length, take, drop}
-use Rattle.query_causes.specs.Query.{Answered}
+use Rattle.roles.specs.Role.{Chain}
+use Rattle.base.specs.Result.{Result}
 use Rattle.query_causes.specs.Input.{is-whole}
 use Rattle.transcript_lines.specs.Block.{Stopped, Block}
 use Rattle.transcript_writer.specs.declared.block.Progress.{Progress}
 use Rattle.transcript_writer.specs.declared.block.Reached.{Reached}
 use Rattle.line_writer.specs.Puts.{Puts}
 
-module _ (hs ms : List ℕ) where
-  -- the block of the first `end` bytes of q is answered by the tables hs and ms: its lines stand at the front of the one buffer, what is not answered at
+-- over what it is to answer a question about a role and a chain
+module _ (Says : ℕ → Chain → Result Bool → Type 0) where
+  -- the block of the first `end` bytes of q is answered: its lines stand at the front of the one buffer, what is not answered at
   -- the front of the other, and all else in both is as it was. `OneBlock` shows that this settles the lines and the rest
   pub record AnswersBlock (k : ℕ) (q : List ℕ) (end : ℕ) (out q′ out′ : List ℕ) (p : Progress) : Type 0 where
     pub lines : List ℕ
     pub rest : List ℕ
-    pub block : Block (Answered hs ms) k (take end q) (length out) lines (p .number) rest
+    pub block : Block Says k (take end q) (length out) lines (p .number) rest
     pub puts : Puts out 0 lines out′ (p .written)
     pub keeps : Puts q 0 rest q′ (p .kept)
     pub left : p .left ≡ is-whole rest
@@ -26,7 +28,7 @@ module _ (hs ms : List ℕ) where
   -- the same, where the rest is left in its place
   pub record Advances (k : ℕ) (q out out′ : List ℕ) (p : Reached) : Type 0 where
     pub lines : List ℕ
-    pub block : Block (Answered hs ms) k q (length out) lines (p .number) (drop (p .read) q)
+    pub block : Block Says k q (length out) lines (p .number) (drop (p .read) q)
     pub puts : Puts out 0 lines out′ (p .written)
     pub within : p .read ≤ length q
 
@@ -37,8 +39,8 @@ module _ (hs ms : List ℕ) where
     pub puts : Puts out 0 lines out′ written
     pub same : length out′ ≡ length out
     pub within : read ≤ length q
-    pub completes : (lines′ : List ℕ) (k″ : ℕ) (rest : List ℕ) → Block (Answered hs ms) k′ (drop read q) (length out - written) lines′ k″ rest
-        → Block (Answered hs ms) k q (length out) (lines ++ lines′) k″ rest
+    pub completes : (lines′ : List ℕ) (k″ : ℕ) (rest : List ℕ) → Block Says k′ (drop read q) (length out - written) lines′ k″ rest
+        → Block Says k q (length out) (lines ++ lines′) k″ rest
     pub few : most ≤ 1024
     pub room : 64 * most ≤ length out - written
     pub numbers : k′ + most ≤ 18446744073709551615

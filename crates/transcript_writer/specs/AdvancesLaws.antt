@@ -10,8 +10,9 @@ use lib.Dec.{eqb}
 use lib.ListN.{length, getD, take, drop, length-append, length-drop}
 use lib.Seq.{slice, drop-drop, take-all, take-append-le, length-take-le}
 use Rattle.io.specs.Counts.{Counts}
+use Rattle.base.specs.Result.{Result}
 use Rattle.byte_parts.specs.Least.{Least}
-use Rattle.query_causes.specs.Query.{Answered}
+use Rattle.roles.specs.Role.{Chain}
 use Rattle.query_causes.specs.Input.{links-of, Broken, is-whole}
 use Rattle.transcript_lines.specs.Lines.{answer-line}
 use Rattle.transcript_lines.specs.LinesLaws.{line-short}
@@ -81,20 +82,20 @@ stops-by (inr (inl h)) broken = no-room h
 stops-by (inr (inr h)) broken = no-number h
 
 -- what answers of a batch say of its questions
-module _ (hs ms : List ℕ) where
-  batched-within : (s : List ℕ) (n : ℕ) (bytes : List ℕ) → Batched (Answered hs ms) s n bytes → n ≤ length s
+module _ (Says : ℕ → Chain → Result Bool → Type 0) where
+  batched-within : (s : List ℕ) (n : ℕ) (bytes : List ℕ) → Batched Says s n bytes → n ≤ length s
   batched-within _ _ _ (none s) = omega arith
   batched-within _ _ _ (more s byte n bytes w a b) = omega (arith, w, batched-within _ n bytes b, length-drop (3 + (getD s 1 0 + 256 * getD s 2 0)) s)
 
-  batched-some : (s : List ℕ) (n : ℕ) (bytes : List ℕ) → Batched (Answered hs ms) s n bytes → 0 < length bytes → 0 < n
+  batched-some : (s : List ℕ) (n : ℕ) (bytes : List ℕ) → Batched Says s n bytes → 0 < length bytes → 0 < n
   batched-some _ _ _ (none s) l = absurd (let f : ⊥ = omega (arith, l) in f)
   batched-some _ _ _ (more s byte n bytes w a b) l = omega arith
 
   -- with room and numbers for their lines, the answers are the front of a block
-  batched-completes : (s : List ℕ) (n : ℕ) (bytes : List ℕ) → Batched (Answered hs ms) s n bytes → (k room : ℕ) (lines : List ℕ) (k′ : ℕ) (rest : List ℕ)
+  batched-completes : (s : List ℕ) (n : ℕ) (bytes : List ℕ) → Batched Says s n bytes → (k room : ℕ) (lines : List ℕ) (k′ : ℕ) (rest : List ℕ)
       → 64 * length bytes ≤ room → k + length bytes ≤ 18446744073709551615
-      → Block (Answered hs ms) (k + length bytes) (drop n s) (room - length (answer-lines k bytes)) lines k′ rest
-      → Block (Answered hs ms) k s room (answer-lines k bytes ++ lines) k′ rest
+      → Block Says (k + length bytes) (drop n s) (room - length (answer-lines k bytes)) lines k′ rest
+      → Block Says k s room (answer-lines k bytes ++ lines) k′ rest
   batched-completes _ _ _ (none s) k room lines k′ rest fits few t =
       let same : k + 0 ≡ k = omega arith in
       let all : room - 0 ≡ room = omega arith in
@@ -111,7 +112,7 @@ module _ (hs ms : List ℕ) where
       (answered {k = k} {room = room} (next-here s w) (omega (arith, fits)) (omega (arith, few)) a ih)
 
 -- nothing is read yet
-pub advanced-none : {hs ms q out : List ℕ} {k most : ℕ} → LinesIn true (length out) k most → Advanced hs ms k q out k 0 0 most out
+pub advanced-none : {Says : ℕ → Chain → Result Bool → Type 0} {q out : List ℕ} {k most : ℕ} → LinesIn true (length out) k most → Advanced Says k q out k 0 0 most out
 advanced-none {q = q} {out} {k} l =
     let all : length out - 0 ≡ length out = omega arith in
     record {
@@ -126,9 +127,9 @@ advanced-none {q = q} {out} {k} l =
       stops = λ e. rw all (stops-by (l .none e) (λ f. absurd (true≢false f)));
     }
 
-module _ {hs ms q out out′ : List ℕ} {k k′ read written most : ℕ} (a : Advanced hs ms k q out k′ read written most out′) where
+module _ {Says : ℕ → Chain → Result Bool → Type 0} {q out out′ : List ℕ} {k k′ read written most : ℕ} (a : Advanced Says k q out k′ read written most out′) where
   -- no more lines
-  pub advances : most ≤ 0 → Advances hs ms k q out out′ (record { number = k′; read = read; written = written })
+  pub advances : most ≤ 0 → Advances Says k q out out′ (record { number = k′; read = read; written = written })
   advances h =
       record {
         lines = a .lines;
@@ -139,8 +140,8 @@ module _ {hs ms q out out′ : List ℕ} {k k′ read written most : ℕ} (a : A
 
   -- one more batch, whose answers are lent the first `most` bytes of a buffer
   module _ (buffer : List ℕ) (long : length buffer ≡ 1024) {answers : List ℕ} {b : Batch}
-      (lent : Batches (Answered hs ms) (take (length q - read) (drop read q)) (take most buffer) answers b) where
-    batch : Batches (Answered hs ms) (drop read q) (take most buffer) answers b
+      (lent : Batches Says (take (length q - read) (drop read q)) (take most buffer) answers b) where
+    batch : Batches Says (drop read q) (take most buffer) answers b
     batch = rw (take-all (length q - read) (drop read q) (omega (arith, length-drop read q))) at lent
 
     lent-size : length (take most buffer) ≡ most
@@ -156,7 +157,7 @@ module _ {hs ms q out out′ : List ℕ} {k k′ read written most : ℕ} (a : A
     batch-fits = omega (arith, batch-long, length-append answers (drop most buffer))
 
     pub batch-within : read + b .read ≤ length q
-    batch-within = omega (arith, a .within, batched-within hs ms (drop read q) (b .read) (take (b .answered) answers) (batch .written), length-drop read q)
+    batch-within = omega (arith, a .within, batched-within Says (drop read q) (b .read) (take (b .answered) answers) (batch .written), length-drop read q)
 
     bytes-long : length (take (b .answered) answers) ≡ b .answered
     bytes-long = length-take-le (b .answered) answers batch-long
@@ -171,7 +172,7 @@ module _ {hs ms q out out′ : List ℕ} {k k′ read written most : ℕ} (a : A
         by-test true e =
             let all : b .answered ≡ most = eqb-true (b .answered) most e in
             let goes : 0 < b .read =
-            batched-some hs ms (drop read q) (b .read) (take (b .answered) answers) (batch .written) (omega (arith, bytes-long, all, some)) in
+            batched-some Says (drop read q) (b .read) (take (b .answered) answers) (batch .written) (omega (arith, bytes-long, all, some)) in
             omega (arith, goes, l .few, batch-within)
 
     module _ {out″ : List ℕ} {written″ : ℕ} (w : WritesLines out′ written k′ (take (b .answered) (answers ++ drop most buffer)) out″ written″) where
@@ -187,7 +188,7 @@ module _ {hs ms q out out′ : List ℕ} {k k′ read written most : ℕ} (a : A
       batch-written = omega (arith, batch-puts .fits, puts-length batch-puts)
 
       pub advanced-next : {most′ : ℕ} → LinesIn (eqb (b .answered) most) (length out″ - written″) (k′ + b .answered) most′
-          → Advanced hs ms k q out (k′ + b .answered) (read + b .read) written″ most′ out″
+          → Advanced Says k q out (k′ + b .answered) (read + b .read) written″ most′ out″
       advanced-next l =
           let bytes : List ℕ = take (b .answered) answers in
           let ends : written″ ≡ written + length (answer-lines k′ bytes) = batch-puts .ends in
@@ -200,7 +201,7 @@ module _ {hs ms q out out′ : List ℕ} {k k′ read written most : ℕ} (a : A
             completes = λ lines k″ rest t.
                 rw (append-assoc (a .lines) (answer-lines k′ bytes) lines)
                 (a .completes (answer-lines k′ bytes ++ lines) k″ rest
-                (batched-completes hs ms (drop read q) (b .read) bytes (batch .written) k′ (length out - written) lines k″ rest
+                (batched-completes Says (drop read q) (b .read) bytes (batch .written) k′ (length out - written) lines k″ rest
                 (omega (arith, bytes-long, batch-few, a .room)) (omega (arith, bytes-long, batch-few, a .numbers))
                 (rw (bytes-long, left, drop-drop (b .read) read q) t)));
             few = l .few;
@@ -215,17 +216,17 @@ module _ {hs ms q out out′ : List ℕ} {k k′ read written most : ℕ} (a : A
           by-reason other (inr h) = h
 
 -- the same tables under other names
-pub advances-as : {hs ms hs′ ms′ q out out′ : List ℕ} {k : ℕ} {p : Reached} → hs ≡ hs′ → ms ≡ ms′ → Advances hs ms k q out out′ p
-    → Advances hs′ ms′ k q out out′ p
-advances-as e f a = rw (← e, ← f) a
+pub advances-as : (Says : (heads moves : List ℕ) → ℕ → Chain → Result Bool → Type 0) {hs ms hs′ ms′ q out out′ : List ℕ} {k : ℕ} {p : Reached} → hs ≡ hs′
+    → ms ≡ ms′ → Advances (Says hs ms) k q out out′ p → Advances (Says hs′ ms′) k q out out′ p
+advances-as Says e f a = rw (← e, ← f) a
 
 -- what is left of a block is moved to the front of the input
-module _ (q : List ℕ) {hs ms out out′ : List ℕ} {k end size : ℕ} {p : Reached} (front : Least end (length q) size) (a : Advances hs ms k (take size q) out out′ p) where
+module _ (q : List ℕ) {Says : ℕ → Chain → Result Bool → Type 0} {out out′ : List ℕ} {k end size : ℕ} {p : Reached} (front : Least end (length q) size) (a : Advances Says k (take size q) out out′ p) where
   pub read-within : p .read ≤ size
   read-within = omega (arith, a .within, length-take-le size q (front .right))
 
   pub answers-kept : {q′ : List ℕ} {kept : ℕ} {left : Bool} → Puts q 0 (slice (p .read) size q) q′ kept → left ≡ is-whole (take kept q′)
-      → AnswersBlock hs ms k q end out q′ out′ (record { number = p .number; kept = kept; written = p .written; left = left })
+      → AnswersBlock Says k q end out q′ out′ (record { number = p .number; kept = kept; written = p .written; left = left })
   answers-kept {q′} {kept} keeps e =
       record {
         lines = a .lines;

@@ -1,4 +1,4 @@
--- The calls of the program, one after another, write what document 01 lays down, wherever the borders of the blocks fall: the line of the opening, the
+-- The calls of the program, one after another, write what documents 01 and 02 lay down, wherever the borders of the blocks fall: the line of the opening, the
 -- lines of each block, and the last line of what is left when the input ends.
 use mathlib.Core.Bool.{true, false, true≢false}
 use mathlib.Core.List.{List, [], _++_}
@@ -9,10 +9,10 @@ use Rattle.roles.specs.Rule.{Book}
 use Rattle.base.specs.Result.{Result, map-result}
 use Rattle.base.specs.Result.Result.{refused, ok}
 use Rattle.book_causes.specs.Accepted.{summary, built}
-use Rattle.query_causes.specs.Query.{Answered}
 use Rattle.query_causes.specs.Input.{Broken}
-use Rattle.query_correctness.specs.Reply.{Decided}
-use Rattle.query_correctness.specs.ReplyLaws.{decided}
+use Rattle.query_correctness.specs.TrailQuery.{AnsweredByTrails}
+use Rattle.query_correctness.specs.BindingReply.{DecidedByBinding}
+use Rattle.query_correctness.specs.BindingReplyLaws.{decided-by-binding}
 use Rattle.transcript_lines.specs.Lines.{first-line}
 use Rattle.transcript_lines.specs.Transcript.{Session}
 use Rattle.transcript_lines.specs.Transcript.Session.{refuses}
@@ -29,13 +29,13 @@ module _ {s h m line line′ : List ℕ} {r : Opening} (o : Opens s h m line lin
 
   -- blocks answered by the tables of the opening are answered by the book
   pub opened-blocks : (b : Book) → built s 64 15360 ≡ ok b → {k k′ : ℕ} {kept lines kept′ : List ℕ} {blocks : List (List ℕ)}
-      → Blocks (Answered (heads-in (r .tables)) (moves-in (r .tables))) k kept blocks lines k′ kept′ → Blocks (Decided b) k kept blocks lines k′ kept′
+      → Blocks (AnsweredByTrails (heads-in (r .tables)) (moves-in (r .tables))) k kept blocks lines k′ kept′ → Blocks (DecidedByBinding b) k kept blocks lines k′ kept′
   opened-blocks b e bs =
-      blocks-map (λ x w a t. decided s 64 15360 b e x w a (rw (opened-heads o b e, opened-moves o b e) at t)) bs
+      blocks-map (λ x w a t. decided-by-binding s 64 15360 b e x w a (rw (opened-heads o b e, opened-moves o b e) at t)) bs
 
   -- an accepted book: any list of blocks
   pub session-accepted : r .accepted ≡ true → {k : ℕ} {lines kept : List ℕ} {blocks : List (List ℕ)}
-      → Blocks (Answered (heads-in (r .tables)) (moves-in (r .tables))) 0 [] blocks lines k kept → Broken kept
+      → Blocks (AnsweredByTrails (heads-in (r .tables)) (moves-in (r .tables))) 0 [] blocks lines k kept → Broken kept
       → Session s (joined blocks) (take (r .written) line′ ++ (lines ++ ending k kept))
   session-accepted h {k} {lines} {kept} {blocks} bs left = by-result (built s 64 15360) refl
     where

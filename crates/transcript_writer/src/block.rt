@@ -3,13 +3,14 @@ ghost use Prim.Native.Nat.{_≤_};
 ghost use lib.ListN.{length};
 ghost use lib.Seq.{slice};
 ghost use Rattle.line_writer.specs.Puts.{Puts};
+ghost use Rattle.query_correctness.specs.TrailQuery.{AnsweredByTrails};
 ghost use Rattle.transcript_writer.specs.Opened.{heads-in, moves-in};
 ghost use Rattle.transcript_writer.specs.Advances.{AnswersBlock, Advances, LinesIn};
 use crate::opening::Tables;
 use byte_parts::least;
 use line_writer::answer_lines;
 use line_writer::is_whole;
-use query_answerer::ask_all;
+use query_binder::bind_all;
 
 // How far a block is answered: the number of the next question, how many bytes are kept for it at the front of the input, how many are written, and
 // whether a whole question is left, for which there is no room.
@@ -29,7 +30,7 @@ pub fn answer_block(
     end: usize,
     out: &mut [u8],
 ) -> Progress
-    ensures { λ r. ⌜ AnswersBlock (heads-in tables) (moves-in tables) number (now (input .entry)) end (now (out .entry)) (now (input .exit)) (now (out .exit)) r ⌝ }
+    ensures { λ r. ⌜ AnswersBlock (AnsweredByTrails (heads-in tables) (moves-in tables)) number (now (input .entry)) end (now (out .entry)) (now (input .exit)) (now (out .exit)) r ⌝ }
 {
     let size = least(end, input.len());
     let reached = answer_each(tables, number, &input[..size], out);
@@ -51,7 +52,7 @@ struct Reached {
 
 // Answers the whole questions at the front of the input by the numbers of the tables that count, as many at a time as surely have room for their lines.
 fn answer_each(tables: Tables, number: u64, input: &[u8], out: &mut [u8]) -> Reached
-    ensures { λ r. ⌜ Advances (heads-in tables) (moves-in tables) number (now (input .entry)) (now (out .entry)) (now (out .exit)) r ⌝ }
+    ensures { λ r. ⌜ Advances (AnsweredByTrails (heads-in tables) (moves-in tables)) number (now (input .entry)) (now (out .entry)) (now (out .exit)) r ⌝ }
 {
     let heads = tables.heads;
     let moves = tables.moves;
@@ -63,7 +64,7 @@ fn answer_each(tables: Tables, number: u64, input: &[u8], out: &mut [u8]) -> Rea
     let mut most = lines_in(true, out.len(), number);
     while 0 < most {
         let mut answers = [0u8; 1024];
-        let batch = ask_all(
+        let batch = bind_all(
             &heads[..names],
             &moves[..numbers],
             &input[read..],

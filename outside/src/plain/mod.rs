@@ -23,6 +23,7 @@ pub mod steps;
 pub mod tables;
 #[cfg(test)]
 mod tests;
+pub mod trail_search;
 pub mod trails;
 
 pub use binding::binds;

@@ -1,16 +1,18 @@
-//! The program of document 01: a book and a stream of questions in, a line for the book and for each question out.
+//! The program of documents 01 and 02: a book and a stream of questions in, a line for the book and for each question out.
 
-use super::query::Indexed;
+use super::binding::NETWORK_BYTES;
 use super::refusal::Refusal;
 use super::tables::MAX_TRANSITIONS;
-use super::{ask, book, build};
+use super::trail_search::TrailSearch;
+use super::{binds, book, build};
 use std::io::{self, BufRead, Write};
 
-/// When the tables are checked and indexed: once for all questions, or anew for each as the archive's call does.
+/// How what binds is found: by trails through the tables, or by closing the links of each chain as the archive's call
+/// does.
 #[derive(Clone, Copy, Debug, PartialEq, Eq)]
-pub enum Indexing {
-    Once,
-    EachQuestion,
+pub enum Method {
+    Trails,
+    Closure,
 }
 
 /// Answers the questions that follow each other in the input.
@@ -18,7 +20,7 @@ pub fn run(
     book: &[u8],
     mut input: impl BufRead,
     mut output: impl Write,
-    indexing: Indexing,
+    method: Method,
 ) -> io::Result<()> {
     let mut heads = [0; book::MAX_NAMES];
     let mut moves = vec![0; 3 * MAX_TRANSITIONS];
@@ -31,15 +33,16 @@ pub fn run(
     writeln!(output, "book {states} {transitions} {depth}")?;
     let heads = &heads[..usize::from(book[book::NAMES])];
     let moves = &moves[..3 * transitions as usize];
-    let mut indexed = Indexed::new(heads, moves).expect("a book's tables can be asked");
+    let mut search = TrailSearch::new(heads, moves).expect("a book's tables can be asked");
+    let mut network = vec![0; NETWORK_BYTES];
     let mut chain = Vec::new();
     for number in 0u64.. {
         let answer = match question(&mut input, &mut chain)? {
             Question::End => break,
             Question::Cut => return writeln!(output, "{number} cut"),
-            Question::About(role) => match indexing {
-                Indexing::Once => indexed.ask(role, &chain),
-                Indexing::EachQuestion => ask(heads, moves, role, &chain),
+            Question::About(role) => match method {
+                Method::Trails => search.binds(role, &chain),
+                Method::Closure => binds(book, role, &chain, &mut network),
             },
         };
         match answer {

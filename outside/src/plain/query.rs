@@ -55,7 +55,10 @@ impl<'a> Indexed<'a> {
 }
 
 /// Cause 12. Returns the moves as transitions, and a number of states that is over each state and over head + 1.
-fn check_tables<'a>(heads: &[u16], moves: &'a [u16]) -> Result<(&'a [[u16; 3]], usize), Refusal> {
+pub(super) fn check_tables<'a>(
+    heads: &[u16],
+    moves: &'a [u16],
+) -> Result<(&'a [[u16; 3]], usize), Refusal> {
     let (transitions, rest) = moves.as_chunks();
     let shape = !heads.is_empty()
         && heads.len() <= MAX_NAMES
@@ -91,16 +94,16 @@ pub fn check_chain(names: usize, role: u8, chain: &[u8]) -> Result<(), Refusal> 
 
 /// The transitions by the state that they leave, as linked lists: for each state one of letters and one of epsilons,
 /// side by side so that no branch depends on the label. An entry is the number of a transition plus 1; 0 ends a list.
-struct Index<const STATES: usize, const TRANSITIONS: usize> {
-    first: [[u16; 2]; STATES],
-    next: [u16; TRANSITIONS],
+pub(super) struct Index<const STATES: usize, const TRANSITIONS: usize> {
+    pub(super) first: [[u16; 2]; STATES],
+    pub(super) next: [u16; TRANSITIONS],
 }
 
-const LETTERS: usize = 0;
-const EPSILONS: usize = 1;
+pub(super) const LETTERS: usize = 0;
+pub(super) const EPSILONS: usize = 1;
 
 impl<const STATES: usize, const TRANSITIONS: usize> Index<STATES, TRANSITIONS> {
-    fn new(transitions: &[[u16; 3]]) -> Self {
+    pub(super) fn new(transitions: &[[u16; 3]]) -> Self {
         let mut index = Index {
             first: [[0; 2]; STATES],
             next: [0; TRANSITIONS],

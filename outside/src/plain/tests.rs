@@ -3,7 +3,7 @@
 use super::book::Book;
 use super::derivation_writer::{LENT_BYTES, MAX_STEPS};
 use super::intervals::Intervals;
-use super::program::{run, Indexing};
+use super::program::{run, Method};
 use super::query::Indexed;
 use super::rewriting::Rewriting;
 use super::tables::{MAX_STATES, MAX_TRANSITIONS};
@@ -144,10 +144,10 @@ fn hall_program() {
     ];
     // Where each question ends.
     let ends = [7, 13, 19, 22, 26];
-    for indexing in [Indexing::Once, Indexing::EachQuestion] {
+    for method in [Method::Trails, Method::Closure] {
         for cut in 0..=questions.len() {
             let mut output = Vec::new();
-            run(HALL, &questions[..cut], &mut output, indexing).unwrap();
+            run(HALL, &questions[..cut], &mut output, method).unwrap();
             let whole = ends.iter().filter(|&&end| end <= cut).count();
             let mut expected = lines[..=whole].concat();
             if cut != 0 && !ends.contains(&cut) {
@@ -162,7 +162,7 @@ fn hall_program() {
 fn program_refusals() {
     let written = |book: &[u8], questions: &[u8]| {
         let mut output = Vec::new();
-        run(book, questions, &mut output, Indexing::Once).unwrap();
+        run(book, questions, &mut output, Method::Trails).unwrap();
         String::from_utf8(output).unwrap()
     };
     assert_eq!(written(b"", b"\x00\x01\x00\x00"), "book refused 1 0\n");

@@ -5,7 +5,7 @@ use Prim.Native.Nat.{ℕ, _≤_}
 use native.Mathlib.Omega.{arith}
 use borrow.Author.Needs.{needs}
 use lib.ListN.{length, take, length-replicate}
-use Rattle.query_causes.specs.Query.{Answered}
+use Rattle.query_correctness.specs.TrailQuery.{AnsweredByTrails}
 use Rattle.line_writer.specs.PutsLaws.{puts-length, puts-counts}
 use Rattle.transcript_writer.specs.Opened.{heads-in, moves-in}
 use Rattle.program.specs.Ran.{Serving}
@@ -17,7 +17,7 @@ use Rattle.program.proofs.serve.Tie as tie
 abbrev Inv-loop : tie.InvT-loop
 Inv-loop tables input₀ out₀ number₀ kept₀ left₀ turns₀ input out number kept left turns =
     (length input ≡ 65538) × (length out ≡ 65536) × (kept ≤ length input)
-    × Serving (Answered (heads-in tables) (moves-in tables)) number (take kept input) left turns
+    × Serving (AnsweredByTrails (heads-in tables) (moves-in tables)) number (take kept input) left turns
 
 abbrev μ-loop : tie.MeasureT-loop
 μ-loop tables input₀ out₀ number₀ kept₀ left₀ turns₀ input out number kept left turns = turns

@@ -6,7 +6,7 @@ use lib.ListN.{length}
 use Rattle.query_answerer.specs.Batch.{Going}
 use Rattle.query_answerer.specs.BatchLaws.{whole-fits, going-none, going-next, going-full, going-broken}
 use Rattle.query_binder.specs.PairSets.{Unused}
-use Rattle.query_binder.specs.TrailQuery.{AnsweredByTrails}
+use Rattle.query_correctness.specs.TrailQuery.{AnsweredByTrails}
 use Rattle.query_binder.proofs.trail_batch.answer_each.Statement.{statement}
 use Rattle.query_binder.proofs.trail_batch.answer_each.Tie as tie
 
