@@ -1,5 +1,6 @@
-//! The program `engine` and `plain_engine` on inputs whose lines are written out here: the worked example, cut and
-//! refused questions, the longest one, questions over many blocks, small pieces, and books that are refused.
+//! The program `engine` and `plain_engine` on inputs whose lines are written out here: the worked example, what binds
+//! without being derived, cut and refused questions, the longest one, questions over many blocks, small pieces, and books
+//! that are refused.
 
 use outside::books::{encode, ladder, longest, HALL};
 use outside::programs::{engine, written, Way};
@@ -31,14 +32,19 @@ fn question(role: u8, chain: &[u8]) -> Vec<u8> {
     [&[role][..], &links.to_le_bytes(), chain].concat()
 }
 
-/// Both programs write these lines, from a file and from a pipe.
+/// Both programs write these lines, from a file and from a pipe; the plain one by both of its methods.
 fn owed(book: Option<&[u8]>, questions: &[u8], lines: &str) {
-    for program in [plain_engine(), engine()] {
+    let plain = plain_engine();
+    for (program, words) in [
+        (&plain, &[][..]),
+        (&plain, &["--close-each"]),
+        (&engine(), &[]),
+    ] {
         for way in [Way::File, Way::Pipe] {
-            let given = written(&program, &[], book, questions, way);
+            let given = written(program, words, book, questions, way);
             assert!(
                 given == lines,
-                "{}, {way:?}: {}",
+                "{} {words:?}, {way:?}: {}",
                 program.display(),
                 difference(&given, lines)
             );
@@ -60,14 +66,40 @@ fn difference(given: &str, owed: &str) -> String {
 #[test]
 fn hall() {
     owed(Some(HALL), QUESTIONS, &LINES.concat());
-    let each = written(
-        &plain_engine(),
-        &["--index-each"],
-        Some(HALL),
-        QUESTIONS,
-        Way::File,
-    );
-    assert_eq!(each, LINES.concat());
+}
+
+/// Chains that bind and are not derived: serves, inv(serves), serves to covers, and a longer rule over two names.
+#[test]
+fn out_and_back() {
+    let book = encode(2, &[(2, [0, 1, 0])]);
+    let asked = [
+        (question(2, &[0]), "yes"),
+        (question(3, &[1]), "yes"),
+        (question(2, &[0, 1, 0]), "yes"),
+        (question(0, &[2]), "no"),
+        (question(2, &[1]), "no"),
+        (question(2, &[0, 0]), "no"),
+    ];
+    owed_each(&book, "book 10 9 2", &asked);
+    let book = encode(3, &[(0, [2, 4, 5, 3, 2, 4])]);
+    let asked = [
+        (question(0, &[2, 4]), "yes"),
+        (question(1, &[5, 3]), "yes"),
+        (question(0, &[2, 4, 5, 4]), "no"),
+        (question(0, &[2, 5]), "no"),
+    ];
+    owed_each(&book, "book 18 16 2", &asked);
+}
+
+/// The first line, and a line for each of the questions.
+fn owed_each(book: &[u8], first: &str, asked: &[(Vec<u8>, &str)]) {
+    let mut lines = format!("{first}\n");
+    let mut input = Vec::new();
+    for (number, (question, answer)) in asked.iter().enumerate() {
+        input.extend(question);
+        lines += &format!("{number} {answer}\n");
+    }
+    owed(Some(book), &input, &lines);
 }
 
 /// The first line of accepted books: states, moves and depth.
@@ -154,7 +186,7 @@ fn every_cut_of_a_long_question() {
     for length in first.len()..=input.len() {
         let last = match length {
             4 => "",
-            1031 => "1 yes\n",
+            1031 => "1 refused 15\n",
             _ => "1 cut\n",
         };
         let given = written(&engine(), &[], Some(HALL), &input[..length], Way::File);
@@ -201,6 +233,8 @@ fn refused_chains_are_read_past() {
         (question(255, QUESTIONS), 14),
         (question(6, &[6, 8]), 14),
         (question(6, &questions[..1024]), 14),
+        (question(6, &[6; 17]), 15),
+        (question(7, &[0; 1024]), 15),
     ] {
         let input = [&asked[..], &refused, &asked, &refused, &asked].concat();
         let lines =
@@ -219,10 +253,12 @@ fn known() -> Vec<(Vec<u8>, &'static str)> {
         (question(6, &[8]), "refused 14"),
         (question(6, &[6]), "yes"),
         (question(2, &[0]), "no"),
-        (question(0, &[0; 29]), "yes"),
+        (question(0, &[0; 16]), "yes"),
+        (question(0, &[0; 17]), "refused 15"),
         (question(2, &[0, 0, 0, 0, 0, 0, 0, 2]), "yes"),
-        (question(1, &[1; 100]), "yes"),
-        (question(0, &[1; 100]), "no"),
+        (question(1, &[1; 16]), "yes"),
+        (question(0, &[1; 16]), "no"),
+        (question(0, &[1; 100]), "refused 15"),
         (question(3, &[3, 1, 1, 0]), "no"),
     ]
 }
@@ -236,10 +272,10 @@ fn many_blocks() {
         let mut random = Random::new(links as u64);
         let mut input = question(0, &vec![1; links]);
         let mut lines = String::from("book 16 18 3\n");
-        lines += if links == 0 {
-            "0 refused 13\n"
-        } else {
-            "0 no\n"
+        lines += match links {
+            0 => "0 refused 13\n",
+            1..=16 => "0 no\n",
+            _ => "0 refused 15\n",
         };
         let mut number = 1;
         while input.len() < 4 * 65538 {
@@ -269,12 +305,12 @@ fn small_pieces() {
     let known = known();
     let mut input = QUESTIONS.to_vec();
     let mut lines = LINES.concat();
-    for (number, (bytes, answer)) in (5..53).zip(known.iter().cycle()) {
+    for (number, (bytes, answer)) in (5..70).zip(known.iter().cycle()) {
         input.extend(bytes);
         lines += &format!("{number} {answer}\n");
     }
     input.push(6);
-    lines += "53 cut\n";
+    lines += "70 cut\n";
     assert!(input.len() > 1000);
     for size in [1, 2, 3, 5, 7, 64] {
         for program in [plain_engine(), engine()] {

@@ -1,18 +1,16 @@
-//! The program `engine` beside `plain_engine` on books and questions from a seed: the same lines. The depth is held to
-//! its sentence, and answers to short chains to membership without tables as well.
+//! The program `engine` beside `plain_engine` on books and questions from a seed: the same lines, by trails through the
+//! tables and by the closure of links. The depth is held to its sentence as well, and what is derived to be a yes.
 
 use outside::books::{careless, encode, Draft, Style, HALL};
 use outside::chains::{self, Replacements};
 use outside::plain::book::Book;
+use outside::plain::derivation_checker::MAX_DERIVED_LINKS;
 use outside::plain::intervals::Intervals;
 use outside::plain::levels::levels;
 use outside::programs::{engine, written, Way};
 use outside::random::Random;
 use outside::trial::{hex, run, Met, Trial};
 use std::path::PathBuf;
-
-/// Chains up to this length are put to the other membership method.
-const INTERVAL_LINKS: usize = 24;
 
 fn plain_engine() -> PathBuf {
     PathBuf::from(env!("CARGO_BIN_EXE_plain_engine"))
@@ -34,20 +32,21 @@ impl Stream {
     }
 }
 
-/// Puts a book and questions to both programs, and counts what they say.
+/// Puts a book and questions to both programs, to the plain one by both of its methods, and counts what they say.
 fn compare(trial: &mut Trial, book: &[u8], questions: &Stream, way: Way) -> String {
     let given = written(&engine(), &[], Some(book), &questions.bytes, way);
-    let owed = written(&plain_engine(), &[], Some(book), &questions.bytes, way);
-    let input = || {
-        [
-            ("book", hex(book)),
-            ("questions", hex(&questions.bytes)),
-            ("engine", given.clone()),
-            ("plain_engine", owed.clone()),
-        ]
-    };
-    if given != owed {
-        trial.check(false, "the programs differ", &input());
+    for words in [&[][..], &["--close-each"]] {
+        let owed = written(&plain_engine(), words, Some(book), &questions.bytes, way);
+        if given != owed {
+            let input = [
+                ("book", hex(book)),
+                ("questions", hex(&questions.bytes)),
+                ("engine", given.clone()),
+                ("plain_engine", owed),
+                ("words", words.concat()),
+            ];
+            trial.check(false, "the programs differ", &input);
+        }
     }
     trial.check(given.starts_with("book "), "there is no first line", &[]);
     for (what, end) in [
@@ -55,6 +54,7 @@ fn compare(trial: &mut Trial, book: &[u8], questions: &Stream, way: Way) -> Stri
         ("lines no", " no"),
         ("lines refused 13", " refused 13"),
         ("lines refused 14", " refused 14"),
+        ("lines refused 15", " refused 15"),
         ("lines cut", " cut"),
     ] {
         let lines = given.lines().filter(|line| line.ends_with(end)).count();
@@ -64,7 +64,7 @@ fn compare(trial: &mut Trial, book: &[u8], questions: &Stream, way: Way) -> Stri
     given
 }
 
-/// Holds the depth and the answers to short chains to the book's rules, without tables.
+/// Holds the depth to the book's rules, and what these derive to be a yes.
 fn compare_with_rules(trial: &mut Trial, book: &[u8], questions: &Stream, lines: &str) {
     let Ok(read) = Book::read(book) else { return };
     if !lines.starts_with("book refused") {
@@ -77,19 +77,22 @@ fn compare_with_rules(trial: &mut Trial, book: &[u8], questions: &Stream, lines:
     }
     let intervals = Intervals::new(&read);
     let answers = lines.lines().skip(1);
-    for (number, (line, (role, chain))) in answers.zip(&questions.asked).enumerate() {
-        if chain.len() > INTERVAL_LINKS || !(line.ends_with("yes") || line.ends_with("no")) {
+    for (line, (role, chain)) in answers.zip(&questions.asked) {
+        if !(line.ends_with("yes") || line.ends_with("no")) {
             continue;
         }
-        let yes = intervals.roles(chain) >> role & 1 == 1;
-        let owed = format!("{number} {}", if yes { "yes" } else { "no" });
+        let (yes, derived) = (
+            line.ends_with("yes"),
+            intervals.roles(chain) >> role & 1 == 1,
+        );
         let input = [
             ("book", hex(book)),
             ("role", hex(&[*role])),
             ("chain", hex(chain)),
         ];
-        trial.check(line == owed, "the program and intervals differ", &input);
-        trial.count("lines by intervals", 1);
+        trial.check(yes || !derived, "a derived chain is a no", &input);
+        trial.count("lines derived", derived.into());
+        trial.count("lines bound, not derived", (yes && !derived).into());
     }
 }
 
@@ -99,12 +102,16 @@ fn questions(random: &mut Random, names: usize, replacements: &Replacements) -> 
     for _ in 0..random.between(0, 40) {
         let role = random.below(2 * names) as u8;
         let links = match random.below(20) {
-            0 => random.pick(&[0, 1023, 1024, 1025, 65535]),
-            _ => chains::links(random),
+            0 => random.pick(&[0, 17, 1023, 1024, 1025, 65535]),
+            1 => chains::links(random),
+            _ => random.between(1, MAX_DERIVED_LINKS),
         };
-        let mut chain = match random.percent(40) && (1..=64).contains(&links) {
-            true => replacements.derive(random, role, links),
-            false => chains::random(random, names, links),
+        let mut chain = match random.below(5) {
+            0 | 1 if (1..=64).contains(&links) => replacements.derive(random, role, links),
+            2 if (1..=64).contains(&links) => {
+                chains::folded(&replacements.derive(random, role, links))
+            }
+            _ => chains::random(random, names, links),
         };
         if random.percent(10) && links > 0 {
             let place = random.below(chain.len());
@@ -129,15 +136,17 @@ const STREAMS: &[Met] = &[
     Met::Counted("lines no"),
     Met::Counted("lines refused 13"),
     Met::Counted("lines refused 14"),
+    Met::Counted("lines refused 15"),
     Met::Counted("lines cut"),
-    Met::Counted("lines by intervals"),
+    Met::Counted("lines derived"),
+    Met::Counted("lines bound, not derived"),
     Met::Counted("depths by their sentence"),
     Met::Counted("books refused"),
 ];
 
 #[test]
 fn streams() {
-    run("streams", 200, STREAMS, |trial, random| {
+    run("streams", 600, STREAMS, |trial, random| {
         let (names, rules) = match random.below(3) {
             0 => careless(random),
             _ => {
@@ -153,16 +162,16 @@ fn streams() {
     });
 }
 
-const MANY_LINKS: &[Met] = &[Met::Counted("lines yes"), Met::Counted("lines no")];
+const MANY_QUESTIONS: &[Met] = &[Met::Counted("lines yes"), Met::Counted("lines no")];
 
-/// Far more links one after another than a set of states has stamps: no state of a question before may count as active.
+/// Several batches of questions, most alike: no pair of a question before may count as reached.
 #[test]
-fn many_links() {
-    run("many_links", 20, MANY_LINKS, |trial, random| {
+fn many_questions() {
+    run("many_questions", 20, MANY_QUESTIONS, |trial, random| {
         let mut questions = Stream::default();
-        for number in 0..256 {
+        for _ in 0..4000 {
             let role = random.pick(&[0, 1, 2, 3, 6, 7]);
-            let links = if number % 64 == 63 { 3 } else { 1024 };
+            let links = random.pick(&[3, 16]);
             let mut chain = vec![0; links];
             if role > 1 {
                 chain[links - 1] = 2;

@@ -29,12 +29,12 @@ pub fn rows(report: &mut Report) {
     let plain = PathBuf::from(env!("CARGO_BIN_EXE_plain_engine"));
     for (input, words) in [
         (
-            "a million questions, hall; plain indexes the tables once",
+            "a million questions, hall; plain by trails as well",
             &[][..],
         ),
         (
-            "a million questions, hall; plain indexes them for each",
-            &["--index-each"],
+            "a million questions, hall; plain closes each chain's links",
+            &["--close-each"],
         ),
     ] {
         run(&folder, &engine, &[]);
