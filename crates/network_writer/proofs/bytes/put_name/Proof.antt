@@ -1,61 +1,43 @@
--- `put_name` meets its contract. The invariant: the rows of the first places are put.
-use mathlib.Core.Path.{_≡_, subst}
-use Prim.Native.Nat.{ℕ, _+_, _-_, _≤_}
+-- `put_name` meets its contract: empty rows are zeros.
 use native.Mathlib.Omega.{arith}
 use borrow.Author.Needs.{needs}
-use lib.ListN.{getD}
-use Rattle.network_writer.specs.WritesNetwork.{joined}
-use Rattle.network_writer.specs.RowBytes.{row-bytes, Puts}
-use Rattle.network_writer.specs.RowBytesLaws.{length-row, puts-size, puts-start, puts-next, puts-room}
+use Rattle.network_writer.specs.RowBytesLaws.{name-zeros, puts-size}
 use Rattle.network_writer.proofs.bytes.put_name.Statement.{statement}
 use Rattle.network_writer.proofs.bytes.put_name.Tie as tie
 
-abbrev Inv-loop : tie.InvT-loop
-Inv-loop rows front places start network₀ at₀ from₀ network at from =
-    (from ≤ places) × Puts network₀ start (joined from (λ a. row-bytes (getD rows (front + a) 0) places)) network at
+is-empty-requires : tie.Need-is-empty-requires
+is-empty-requires c κs = (c .before .before .pre .1, c .before .before .pre .2)
 
-abbrev μ-loop : tie.MeasureT-loop
-μ-loop rows front places start network₀ at₀ from₀ network at from = places - from
+mul-put-zeros : tie.Need-mul-put-zeros
+mul-put-zeros c = omega (arith, c .before .before .before .before .pre .0, c .before .before .before .before .good)
 
-loop-holds : tie.Need-loop-holds Inv-loop μ-loop
-loop-holds c = (omega arith, puts-start (λ a. row-bytes (getD (c .before .before .args .rows .now) (c .before .before .args .front + a) 0) (c .before .before .args .places)))
+put-zeros-requires : tie.Need-put-zeros-requires
+put-zeros-requires c κs = c .before .before .before .before .before .pre .0
 
-add-row : tie.Need-add-row Inv-loop μ-loop
-add-row c = omega (arith, c .loop-test .taken, c .before .before .before .before .pre .1, c .before .before .before .before .pre .2)
+same-length : tie.Need-same-length
+same-length c = puts-size (c .before .before .put-zeros .ensures)
 
-put-row-requires : tie.Need-put-row-requires Inv-loop μ-loop
-put-row-requires c κs = (
-  puts-room (λ a. row-bytes (getD (c .before .before .before .before .before .before .args .rows .now) (c .before .before .before .before .before .before .args .front + a) 0) (c .before .before .before .before .before .before .args .places)) (c .before .before .before .before .before .before .args .places) (c .before .before .before .before .before .before .args .places) (c .before .before .before .loop .from)
-      (λ a. length-row (getD (c .before .before .before .before .before .before .args .rows .now) (c .before .before .before .before .before .before .args .front + a) 0) (c .before .before .before .before .before .before .args .places)) (c .before .before .loop-test .taken) (c .before .before .before .before .before .before .pre .0) (c .before .before .before .loop .inv .1),
-  c .before .before .before .before .before .before .pre .2,
-)
+returns : tie.Need-returns
+returns c = rw (name-zeros (c .before .before .before .before .before .before .before .before .args .rows .now) (c .before .before .before .before .before .before .before .before .args .front) (c .before .before .before .before .before .before .before .before .args .places) (c .before .before .before .before .before .is-empty .ensures (c .before .before .before .before .if1 .taken))) (c .before .before .put-zeros .ensures)
 
-loop-again : tie.Need-loop-again Inv-loop μ-loop
-loop-again c = (
-  omega (arith, c .before .before .before .before .before .loop-test .taken),
-  puts-next (λ a. row-bytes (getD (c .before .before .before .before .before .before .before .before .before .args .rows .now) (c .before .before .before .before .before .before .before .before .before .args .front + a) 0) (c .before .before .before .before .before .before .before .before .before .args .places)) (c .before .before .before .before .before .before .loop .inv .1) (rw (c .before .before .before .before .row .ensures) at (c .before .before .put-row .ensures)),
-)
+put-rows-requires : tie.Need-put-rows-requires
+put-rows-requires c κs = c .before .before .before .before .before .pre
 
-same-length : tie.Need-same-length Inv-loop μ-loop
-same-length c = puts-size (c .before .loop .inv .1)
+same-length-2 : tie.Need-same-length-2
+same-length-2 c = puts-size (c .before .before .put-rows .ensures)
 
-returns : tie.Need-returns Inv-loop μ-loop
-returns c =
-    subst (λ (n : ℕ). Puts (c .before .before .before .before .args .network .now) (c .before .before .before .before .args .start) (joined n (λ a. row-bytes (getD (c .before .before .before .before .args .rows .now) (c .before .before .before .before .args .front + a) 0) (c .before .before .before .before .args .places))) (c .before .loop .network) (c .before .loop .at))
-    (let e : c .before .loop .from ≡ c .before .before .before .before .args .places = omega (arith, c .loop-test .left, c .before .loop .inv .0) in e) (c .before .loop .inv .1)
+returns-2 : tie.Need-returns-2
+returns-2 c = c .before .before .put-rows .ensures
 
 pub put-name-spec : {M : Type 1} → statement M
 put-name-spec =
     tie.close
     (tie.spec
-    Inv-loop
-    μ-loop
-    loop-holds
-    add-row
-    (λ c κs. search needs)
-    put-row-requires
-    (λ c. search needs)
-    (λ c. search needs)
-    loop-again
+    is-empty-requires
+    mul-put-zeros
+    put-zeros-requires
     same-length
-    returns)
+    returns
+    put-rows-requires
+    same-length-2
+    returns-2)

@@ -12,10 +12,10 @@ use Rattle.network_writer.proofs.bytes.put_zeros.Statement.{statement}
 use Rattle.network_writer.proofs.bytes.put_zeros.Tie as tie
 
 abbrev Inv-loop : tie.InvT-loop
-Inv-loop places start network₀ to₀ network to = (to ≤ places) × Puts network₀ start (row-bytes 0 to) network (start + to)
+Inv-loop size start network₀ to₀ network to = (to ≤ size) × Puts network₀ start (row-bytes 0 to) network (start + to)
 
 abbrev μ-loop : tie.MeasureT-loop
-μ-loop places start network₀ to₀ network to = places - to
+μ-loop size start network₀ to₀ network to = size - to
 
 loop-holds : tie.Need-loop-holds Inv-loop μ-loop
 loop-holds c =
@@ -43,7 +43,7 @@ same-length c = puts-size (c .before .loop .inv .1)
 
 returns : tie.Need-returns Inv-loop μ-loop
 returns c =
-    let e : c .before .loop .to ≡ c .before .before .args .places = omega (arith, c .loop-test .left, c .before .loop .inv .0) in
+    let e : c .before .loop .to ≡ c .before .before .args .size = omega (arith, c .loop-test .left, c .before .loop .inv .0) in
     rw e at (c .before .loop .inv .1)
 
 pub put-zeros-spec : {M : Type 1} → statement M
