@@ -6,5 +6,6 @@ pub mod Hops
 pub mod HopsLaws
 pub mod PairReach
 pub mod PairReachLaws
+pub mod SmallTables
 pub mod TrailBatch
 pub mod TrailBatchLaws

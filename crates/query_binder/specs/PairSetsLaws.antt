@@ -11,25 +11,26 @@ use lib.Seq.{getD-set-same, getD-set-other}
 use Rattle.base.specs.Truth.{lt-or-le, eq-or-ne}
 use Rattle.base.specs.Reflects.{Reflects}
 use Rattle.base.specs.Pigeonhole.{pigeonhole}
-use Rattle.query_binder.specs.PairSets.{room, Member, PairSet, Unused, Gains, Cleared, Renewed}
+use Rattle.query_binder.specs.PairSets.{Member, PairSet, Unused, Gains, Cleared, Renewed}
 
 -- a member stays one
-pub still-member : {stamp : ℕ} {H : ℕ → Type 0} {s : List ℕ} {count : ℕ} {t : List ℕ} {more x : ℕ} → Gains stamp H s count t more → Member s count x → Member t more x
+pub still-member : {room stamp : ℕ} {H : ℕ → Type 0} {s : List ℕ} {count : ℕ} {t : List ℕ} {more x : ℕ} → Gains room stamp H s count t more → Member s count x → Member t more x
 still-member g m = record { place = m .place; inside = omega (arith, g .grows, m .inside); here = g .kept (m .place) (m .inside) ∙ m .here }
 
 -- zeros are older than every stamp
-pub unused-zeros : {s : List ℕ} → s ≡ replicate (2 * room) 0 → Unused 1 s
-unused-zeros e =
-    rw e
-    (record {
-      size = length-replicate {A = ℕ} (2 * room) 0;
-      older = λ x l. rw (getD-replicate {A = ℕ} (2 * room) (room + x) 0 0 (omega arith)) (omega arith);
-    })
+pub unused-zeros : {room : ℕ} (size : ℕ) → room ≤ 2048 → size ≡ 64 * room → Unused room 1 (replicate size 0)
+unused-zeros {room} size low e =
+    record {
+      low = low;
+      size = length-replicate {A = ℕ} size 0 ∙ e;
+      older = λ x l. rw (getD-replicate {A = ℕ} size (32 * room + x) 0 0 (omega arith)) (omega arith);
+    }
 
 -- an empty set, whatever stands in front
-pub set-none : {stamp : ℕ} {s : List ℕ} → Unused stamp s → PairSet stamp s 0
+pub set-none : {room stamp : ℕ} {s : List ℕ} → Unused room stamp s → PairSet room stamp s 0
 set-none u =
     record {
+      low = u .low;
       size = u .size;
       few = omega arith;
       below = λ i l. absurd (omega arith);
@@ -40,50 +41,50 @@ set-none u =
     }
 
 -- what a stamp is newer than, a later one is
-pub unused-later : {stamp : ℕ} {s : List ℕ} → Unused stamp s → Unused (stamp + 1) s
-unused-later u = record { size = u .size; older = λ x l. omega (arith, u .older x l) }
+pub unused-later : {room stamp : ℕ} {s : List ℕ} → Unused room stamp s → Unused room (stamp + 1) s
+unused-later u = record { low = u .low; size = u .size; older = λ x l. omega (arith, u .older x l) }
 
 -- the stamps are cleared one by one
-pub cleared-none : {s : List ℕ} → length s ≡ 2 * room → Cleared room s
-cleared-none size = record { size = size; clear = λ x l. absurd (omega arith) }
+pub cleared-none : {room stamp : ℕ} {s : List ℕ} → Unused room stamp s → Cleared room (32 * room) s
+cleared-none u = record { low = u .low; size = u .size; clear = λ x l. absurd (omega arith) }
 
-module _ (i : ℕ) (s : List ℕ) (so-far : Cleared i s) where
-  pub cleared-more : i < 2 * room → Cleared (i + 1) (set s i 0)
-  cleared-more l = record { size = length-set s i 0 ∙ so-far .size; clear = λ x k. by-place x k (eq-or-ne (room + x) i) }
+module _ {room : ℕ} (i : ℕ) (s : List ℕ) (so-far : Cleared room i s) where
+  pub cleared-more : i < 64 * room → Cleared room (i + 1) (set s i 0)
+  cleared-more l = record { low = so-far .low; size = length-set s i 0 ∙ so-far .size; clear = λ x k. by-place x k (eq-or-ne (32 * room + x) i) }
     where
-      by-place : (x : ℕ) → room + x < i + 1 → (room + x ≡ i) ⊎ (room + x ≡ i → ⊥) → getD (set s i 0) (room + x) 0 ≡ 0
+      by-place : (x : ℕ) → 32 * room + x < i + 1 → (32 * room + x ≡ i) ⊎ (32 * room + x ≡ i → ⊥) → getD (set s i 0) (32 * room + x) 0 ≡ 0
       by-place x k (inl e) = rw e (getD-set-same s i 0 0 (omega (arith, so-far .size)))
-      by-place x k (inr e) = getD-set-other s i (room + x) 0 0 e ∙ so-far .clear x (omega arith)
+      by-place x k (inr e) = getD-set-other s i (32 * room + x) 0 0 e ∙ so-far .clear x (omega arith)
 
-  pub renewed-all : 2 * room ≤ i → Renewed s 1
+  pub renewed-all : 64 * room ≤ i → Renewed room s 1
   renewed-all l =
-      record { small = omega arith; unused = record { size = so-far .size; older = λ x k. rw (so-far .clear x (omega arith)) (omega arith) } }
+      record { small = omega arith; unused = record { low = so-far .low; size = so-far .size; older = λ x k. rw (so-far .clear x (omega arith)) (omega arith) } }
 
-module _ {stamp : ℕ} {s : List ℕ} {count : ℕ} (good : PairSet stamp s count) where
+module _ {room stamp : ℕ} {s : List ℕ} {count : ℕ} (good : PairSet room stamp s count) where
   -- a newer stamp is unused
-  pub unused-after : Unused (stamp + 1) s
-  unused-after = record { size = good .size; older = λ x l. omega (arith, good .newest x l) }
+  pub unused-after : Unused room (stamp + 1) s
+  unused-after = record { low = good .low; size = good .size; older = λ x l. omega (arith, good .newest x l) }
 
   -- a pair without the stamp is no member
-  not-marked : (x : ℕ) → (getD s (room + x) 0 ≡ stamp → ⊥) → Member s count x → ⊥
-  not-marked x h m = h (ap (λ (y : ℕ). getD s (room + y) 0) (sym (m .here)) ∙ good .marked (m .place) (m .inside))
+  not-marked : (x : ℕ) → (getD s (32 * room + x) 0 ≡ stamp → ⊥) → Member s count x → ⊥
+  not-marked x h m = h (ap (λ (y : ℕ). getD s (32 * room + y) 0) (sym (m .here)) ∙ good .marked (m .place) (m .inside))
 
   -- the stamp tells
-  pub marked-decides : (x : ℕ) → x < room → Reflects (eqb (getD s (room + x) 0) stamp) (Member s count x)
+  pub marked-decides : (x : ℕ) → x < 32 * room → Reflects (eqb (getD s (32 * room + x) 0) stamp) (Member s count x)
   marked-decides x l =
       record {
-        holds = λ h. good .known x l (eqb-true (getD s (room + x) 0) stamp h);
-        fails = λ h. not-marked x (eqb-false (getD s (room + x) 0) stamp h);
+        holds = λ h. good .known x l (eqb-true (getD s (32 * room + x) 0) stamp h);
+        fails = λ h. not-marked x (eqb-false (getD s (32 * room + x) 0) stamp h);
       }
 
   -- nothing is added
-  pub gains-none : (H : ℕ → Type 0) → ((x : ℕ) → H x → Member s count x) → Gains stamp H s count s count
+  pub gains-none : (H : ℕ → Type 0) → ((x : ℕ) → H x → Member s count x) → Gains room stamp H s count s count
   gains-none H in-set = record { good = good; grows = omega arith; kept = λ i l. refl; came = λ i k l. absurd (omega arith); there = in-set }
 
-  pub put-nothing : (x : ℕ) → x < room → getD s (room + x) 0 ≡ stamp → Gains stamp (λ y. y ≡ x) s count s count
+  pub put-nothing : (x : ℕ) → x < 32 * room → getD s (32 * room + x) 0 ≡ stamp → Gains room stamp (λ y. y ≡ x) s count s count
   put-nothing x l e = gains-none (λ y. y ≡ x) (λ y d. rw d (good .known x l e))
 
-  module _ (x : ℕ) (small : x < room) (unmarked : getD s (room + x) 0 ≡ stamp → ⊥) where
+  module _ (x : ℕ) (small : x < 32 * room) (unmarked : getD s (32 * room + x) 0 ≡ stamp → ⊥) where
     absent : Member s count x → ⊥
     absent = not-marked x unmarked
 
@@ -99,10 +100,10 @@ module _ {stamp : ℕ} {s : List ℕ} {count : ℕ} (good : PairSet stamp s coun
     unfolding with-x
     other-x i h = getD-set-other s count i x 0 h
 
-    with-x-below : (i : ℕ) → i < suc count → with-x i < room
+    with-x-below : (i : ℕ) → i < suc count → with-x i < 32 * room
     with-x-below i l = by-place (eq-or-ne i count)
       where
-        by-place : (i ≡ count) ⊎ (i ≡ count → ⊥) → with-x i < room
+        by-place : (i ≡ count) ⊎ (i ≡ count → ⊥) → with-x i < 32 * room
         by-place (inl e) = rw (e, last-x) small
         by-place (inr e) = rw (other-x i e) (good .below i (omega arith))
 
@@ -118,16 +119,16 @@ module _ {stamp : ℕ} {s : List ℕ} {count : ℕ} (good : PairSet stamp s coun
         by-places (inr d) (inl e) = absurd (member i l d (sym (other-x i d) ∙ h ∙ ap with-x e ∙ last-x))
         by-places (inr d) (inr e) = good .apart i j (omega arith) (omega arith) (sym (other-x i d) ∙ h ∙ other-x j e)
 
-    room-for-one : count < room
-    room-for-one = pigeonhole (suc count) room with-x with-x-below with-x-apart
+    room-for-one : count < 32 * room
+    room-for-one = pigeonhole (suc count) (32 * room) with-x with-x-below with-x-apart
 
     -- the set with x written after its members, and its stamp
     written : List ℕ
-    written = set (set s count x) (room + x) stamp
+    written = set (set s count x) (32 * room + x) stamp
 
-    written-first : (i : ℕ) → i < room → getD written i 0 ≡ with-x i
+    written-first : (i : ℕ) → i < 32 * room → getD written i 0 ≡ with-x i
     unfolding written with-x
-    written-first i l = getD-set-other (set s count x) (room + x) i stamp 0 (omega arith)
+    written-first i l = getD-set-other (set s count x) (32 * room + x) i stamp 0 (omega arith)
 
     written-kept : (i : ℕ) → i < count → getD written i 0 ≡ getD s i 0
     written-kept i l = written-first i (omega (arith, room-for-one)) ∙ other-x i (omega arith)
@@ -135,15 +136,15 @@ module _ {stamp : ℕ} {s : List ℕ} {count : ℕ} (good : PairSet stamp s coun
     written-x : getD written count 0 ≡ x
     written-x = written-first count room-for-one ∙ last-x
 
-    written-mark : getD written (room + x) 0 ≡ stamp
+    written-mark : getD written (32 * room + x) 0 ≡ stamp
     unfolding written
-    written-mark = getD-set-same (set s count x) (room + x) stamp 0 (simp length-set (omega (arith, good .size)))
+    written-mark = getD-set-same (set s count x) (32 * room + x) stamp 0 (simp length-set (omega (arith, good .size)))
 
-    written-other : (y : ℕ) → (y ≡ x → ⊥) → getD written (room + y) 0 ≡ getD s (room + y) 0
+    written-other : (y : ℕ) → (y ≡ x → ⊥) → getD written (32 * room + y) 0 ≡ getD s (32 * room + y) 0
     unfolding written
     written-other y h =
-        getD-set-other (set s count x) (room + x) (room + y) stamp 0 (λ e. h (omega arith))
-        ∙ getD-set-other s count (room + y) x 0 (omega (arith, room-for-one))
+        getD-set-other (set s count x) (32 * room + x) (32 * room + y) stamp 0 (λ e. h (omega arith))
+        ∙ getD-set-other s count (32 * room + y) x 0 (omega (arith, room-for-one))
 
     there : Member written (count + 1) x
     there = record { place = count; inside = omega arith; here = written-x }
@@ -151,13 +152,14 @@ module _ {stamp : ℕ} {s : List ℕ} {count : ℕ} (good : PairSet stamp s coun
     written-member : (y : ℕ) → Member s count y → Member written (count + 1) y
     written-member y m = record { place = m .place; inside = omega (arith, m .inside); here = written-kept (m .place) (m .inside) ∙ m .here }
 
-    written-size : length written ≡ 2 * room
+    written-size : length written ≡ 64 * room
     unfolding written
     written-size = simp length-set (good .size)
 
-    written-good : PairSet stamp written (count + 1)
+    written-good : PairSet room stamp written (count + 1)
     written-good =
         record {
+          low = good .low;
           size = written-size;
           few = omega (arith, room-for-one);
           below = λ i l. rw (written-first i (omega (arith, room-for-one))) (with-x-below i (omega arith));
@@ -169,20 +171,20 @@ module _ {stamp : ℕ} {s : List ℕ} {count : ℕ} (good : PairSet stamp s coun
           newest = λ y l. newest y l (eq-or-ne y x);
         }
       where
-        marked : (i : ℕ) → (i < count) ⊎ (count ≤ i) → i < count + 1 → getD written (room + getD written i 0) 0 ≡ stamp
+        marked : (i : ℕ) → (i < count) ⊎ (count ≤ i) → i < count + 1 → getD written (32 * room + getD written i 0) 0 ≡ stamp
         marked i (inl k) l =
             rw (written-kept i k) (written-other (getD s i 0) (λ e. absent (record { place = i; inside = k; here = e })) ∙ good .marked i k)
         marked i (inr k) l = let e : i ≡ count = omega arith in rw (e, written-x) written-mark
 
-        known : (y : ℕ) → y < room → getD written (room + y) 0 ≡ stamp → (y ≡ x) ⊎ (y ≡ x → ⊥) → Member written (count + 1) y
+        known : (y : ℕ) → y < 32 * room → getD written (32 * room + y) 0 ≡ stamp → (y ≡ x) ⊎ (y ≡ x → ⊥) → Member written (count + 1) y
         known y l e (inl d) = rw d there
         known y l e (inr d) = written-member y (good .known y l (sym (written-other y d) ∙ e))
 
-        newest : (y : ℕ) → y < room → (y ≡ x) ⊎ (y ≡ x → ⊥) → getD written (room + y) 0 ≤ stamp
+        newest : (y : ℕ) → y < 32 * room → (y ≡ x) ⊎ (y ≡ x → ⊥) → getD written (32 * room + y) 0 ≤ stamp
         newest y l (inl d) = rw (d, written-mark) (omega arith)
         newest y l (inr d) = rw (written-other y d) (good .newest y l)
 
-    pub put-written : Gains stamp (λ y. y ≡ x) s count (set (set s count x) (room + x) stamp) (count + 1)
+    pub put-written : Gains room stamp (λ y. y ≡ x) s count (set (set s count x) (32 * room + x) stamp) (count + 1)
     unfolding written
     put-written =
         record {
@@ -194,13 +196,13 @@ module _ {stamp : ℕ} {s : List ℕ} {count : ℕ} (good : PairSet stamp s coun
         }
 
 -- what is added is added for another reason that is the same
-pub gains-as : {stamp : ℕ} {H J : ℕ → Type 0} {s : List ℕ} {count : ℕ} {t : List ℕ} {more : ℕ} → ((x : ℕ) → H x → J x) → ((x : ℕ) → J x → H x)
-    → Gains stamp H s count t more → Gains stamp J s count t more
+pub gains-as : {room stamp : ℕ} {H J : ℕ → Type 0} {s : List ℕ} {count : ℕ} {t : List ℕ} {more : ℕ} → ((x : ℕ) → H x → J x) → ((x : ℕ) → J x → H x)
+    → Gains room stamp H s count t more → Gains room stamp J s count t more
 gains-as f g h = record { good = h .good; grows = h .grows; kept = h .kept; came = λ i k l. f _ (h .came i k l); there = λ x j. h .there x (g x j) }
 
 -- additions add up
-pub gains-on : {stamp : ℕ} {H J : ℕ → Type 0} {s : List ℕ} {a : ℕ} {t : List ℕ} {b : ℕ} {u : List ℕ} {c : ℕ}
-    → Gains stamp H s a t b → Gains stamp J t b u c → Gains stamp (λ x. H x ⊎ J x) s a u c
+pub gains-on : {room stamp : ℕ} {H J : ℕ → Type 0} {s : List ℕ} {a : ℕ} {t : List ℕ} {b : ℕ} {u : List ℕ} {c : ℕ}
+    → Gains room stamp H s a t b → Gains room stamp J t b u c → Gains room stamp (λ x. H x ⊎ J x) s a u c
 gains-on {H = H} {J = J} {a = a} {b = b} {u = u} {c = c} p q =
     record {
       good = q .good;

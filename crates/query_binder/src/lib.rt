@@ -3,6 +3,7 @@
 mod hops;
 mod pairs;
 mod reaching;
+mod small_tables;
 mod trail_batch;
 mod trail_index;
 

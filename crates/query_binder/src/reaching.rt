@@ -13,6 +13,7 @@ use role_bytes::is_inverse;
 // Whether hops lead from the state `head` at one place to the next state at another. The set has the given stamp.
 pub(crate) fn weave(
     moves: &[u16],
+    room: usize,
     index: &[u16],
     chain: &[u8],
     head: usize,
@@ -21,21 +22,21 @@ pub(crate) fn weave(
     stamp: u16,
     pairs: &mut [u16],
 ) -> bool
-    requires { ⌜ Ground (now moves) (now index) (now chain) ⌝ }
-    requires { ⌜ (head < 2047) × (begin ≤ 16) × (end ≤ 16) ⌝ }
-    requires { ⌜ Unused stamp (now pairs) ⌝ }
+    requires { ⌜ Ground room (now moves) (now index) (now chain) ⌝ }
+    requires { ⌜ (head + 1 < room) × (begin ≤ 16) × (end ≤ 16) ⌝ }
+    requires { ⌜ Unused room stamp (now pairs) ⌝ }
     ensures { λ r. ⌜ Reflects r (Leads (transitions-in (now (moves .entry))) (laid (now (chain .entry))) (head + 1) end head begin) ⌝ }
-    ensures { λ _. ⌜ Unused (stamp + 1) (now (pairs .exit)) ⌝ }
+    ensures { λ _. ⌜ Unused room (stamp + 1) (now (pairs .exit)) ⌝ }
 {
-    let mark = 34816 + (2048 * end + (head + 1));
-    let mut count = put(pairs, stamp, 0, 2048 * begin + head);
+    let mark = 32 * room + (32 * (head + 1) + end);
+    let mut count = put(pairs, room, stamp, 0, 32 * head + begin);
     let mut i = 0;
     while i < count {
         if pairs[mark] == stamp {
             return true;
         }
         let pair = pairs[i] as usize;
-        count = visit(moves, index, chain, pair, pairs, stamp, count);
+        count = visit(moves, room, index, chain, pair, pairs, stamp, count);
         i += 1;
     }
     pairs[mark] == stamp
@@ -45,6 +46,7 @@ pub(crate) fn weave(
 // other way for the inverse of a name.
 pub(crate) fn binds(
     moves: &[u16],
+    room: usize,
     index: &[u16],
     role: u8,
     chain: &[u8],
@@ -52,14 +54,15 @@ pub(crate) fn binds(
     stamp: u16,
     pairs: &mut [u16],
 ) -> bool
-    requires { ⌜ Ground (now moves) (now index) (now chain) ⌝ }
-    requires { ⌜ head < 2047 ⌝ }
-    requires { ⌜ Unused stamp (now pairs) ⌝ }
+    requires { ⌜ Ground room (now moves) (now index) (now chain) ⌝ }
+    requires { ⌜ head + 1 < room ⌝ }
+    requires { ⌜ Unused room stamp (now pairs) ⌝ }
     ensures { λ r. ⌜ Reflects r (Leads (transitions-in (now (moves .entry))) (laid (now (chain .entry))) (head + 1) (end role (now (chain .entry))) head (begin role (now (chain .entry)))) ⌝ }
-    ensures { λ _. ⌜ Unused (stamp + 1) (now (pairs .exit)) ⌝ }
+    ensures { λ _. ⌜ Unused room (stamp + 1) (now (pairs .exit)) ⌝ }
 {
+    let last = chain.len();
     if is_inverse(role) {
-        return weave(moves, index, chain, head, chain.len(), 0, stamp, pairs);
+        return weave(moves, room, index, chain, head, last, 0, stamp, pairs);
     }
-    weave(moves, index, chain, head, 0, chain.len(), stamp, pairs)
+    weave(moves, room, index, chain, head, 0, last, stamp, pairs)
 }

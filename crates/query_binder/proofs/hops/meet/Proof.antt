@@ -13,12 +13,17 @@ returns c =
 cast-to : tie.Need-cast-to
 cast-to c =
     let entry = c .before .before .before .before .before in
-    omega (arith, entry .pre .0 (entry .args .k) (entry .pre .1 .0 .0) .to-fits)
+    omega (arith, entry .pre .1 .1 .low, entry .pre .0 (entry .args .k) (entry .pre .1 .0 .0) .to-fits)
+
+mul-put : tie.Need-mul-put
+mul-put c =
+    let entry = c .before .before .before .before .before .before in
+    omega (arith, entry .pre .1 .1 .low, entry .pre .0 (entry .args .k) (entry .pre .1 .0 .0) .to-fits)
 
 add-put : tie.Need-add-put
 add-put c =
     let entry = c .before .before .before .before .before .before in
-    omega (arith, entry .pre .1 .0 .1, entry .pre .0 (entry .args .k) (entry .pre .1 .0 .0) .to-fits)
+    omega (arith, entry .pre .1 .0 .1, entry .pre .1 .1 .low, entry .pre .0 (entry .args .k) (entry .pre .1 .0 .0) .to-fits)
 
 put-requires : tie.Need-put-requires
 put-requires c κs =
@@ -45,7 +50,7 @@ meet-spec =
     (λ c. search needs)
     (λ c. search needs)
     cast-to
-    (λ c. search needs)
+    mul-put
     add-put
     put-requires
     (λ c. search needs)

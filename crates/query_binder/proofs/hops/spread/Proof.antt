@@ -9,10 +9,10 @@ use Rattle.query_binder.proofs.hops.spread.Statement.{statement}
 use Rattle.query_binder.proofs.hops.spread.Tie as tie
 
 abbrev Inv-loop : tie.InvT-loop
-Inv-loop moves index from label place pairs₀ stamp count all₀ at₀ pairs all at = Walked moves stamp from label place at pairs₀ count pairs all
+Inv-loop moves room index from label place pairs₀ stamp count all₀ at₀ pairs all at = Walked moves room stamp from label place at pairs₀ count pairs all
 
 abbrev μ-loop : tie.MeasureT-loop
-μ-loop moves index from label place pairs₀ stamp count all₀ at₀ pairs all at = at
+μ-loop moves room index from label place pairs₀ stamp count all₀ at₀ pairs all at = at
 
 shared-slice-read-at : tie.Need-shared-slice-read-at Inv-loop μ-loop
 shared-slice-read-at c =
@@ -38,25 +38,26 @@ add-at-2 : tie.Need-add-at-2 Inv-loop μ-loop
 add-at-2 c =
     let entry = c .before .before .before .before .before .before .before .before .before .before in
     let at-loop = c .before .before .before .before .before in
-    omega (arith, at-loop .loop .inv .low, entry .pre .0 .few, c .before .before .before .before .loop-test .taken)
+    omega (arith, at-loop .loop .inv .low, entry .pre .0 .low, entry .pre .0 .few, c .before .before .before .before .loop-test .taken)
 
-mul-at-3 : tie.Need-mul-at-3 Inv-loop μ-loop
-mul-at-3 c =
+mul-at-4 : tie.Need-mul-at-4 Inv-loop μ-loop
+mul-at-4 c =
     let entry = c .before .before .before .before .before .before .before .before .before .before in
     let at-loop = c .before .before .before .before .before in
-    omega (arith, at-loop .loop .inv .low, entry .pre .0 .few, c .before .before .before .before .loop-test .taken)
+    omega (arith, at-loop .loop .inv .low, entry .pre .0 .low, entry .pre .0 .few, c .before .before .before .before .loop-test .taken)
 
 shared-slice-read-at-2 : tie.Need-shared-slice-read-at-2 Inv-loop μ-loop
 shared-slice-read-at-2 c =
     let entry = c .before .before .before .before .before .before .before .before .before .before .before in
     let at-loop = c .before .before .before .before .before .before in
     let at-loop-test = c .before .before .before .before .before in
-    omega (arith, at-loop .loop .inv .low, entry .pre .0 .few, at-loop-test .loop-test .taken, entry .pre .0 .size)
+    omega (arith, at-loop .loop .inv .low, at-loop-test .loop-test .taken, entry .pre .0 .size)
 
 cast-at-2 : tie.Need-cast-at-2 Inv-loop μ-loop
 cast-at-2 c =
+    let entry = c .before .before .before .before .before .before .before .before .before .before .before in
     let at-loop = c .before .before .before .before .before .before in
-    omega (arith, c .shared-slice-known4 .given (4096 + (at-loop .loop .at - 1)))
+    omega (arith, c .shared-slice-known4 .given (2 * entry .args .room + (at-loop .loop .at - 1)))
 
 loop-less : tie.Need-loop-less Inv-loop μ-loop
 loop-less c =
@@ -80,7 +81,7 @@ same-length c =
 returns : tie.Need-returns Inv-loop μ-loop
 returns c =
     let entry = c .before .before .before .before .before .before in
-    let e : c .before .loop .at ≡ 0 = omega (arith, c .loop-test .left) in walked-all (entry .pre .0) (rw e at (c .before .loop .inv))
+    let e : c .before .loop .at ≡ 0 = omega (arith, c .loop-test .left) in walked-all (entry .pre .0) (entry .pre .1 .0 .1) (rw e at (c .before .loop .inv))
 
 pub spread-spec : {M : Type 1} → statement M
 spread-spec =
@@ -88,16 +89,17 @@ spread-spec =
     (tie.spec
     Inv-loop
     μ-loop
-    (λ c. omega (arith, c .before .before .before .pre .1 .0 .0))
-    (λ c. omega (arith, c .before .before .before .pre .1 .0 .0))
-    (λ c. omega (arith, c .before .before .before .pre .1 .0 .0))
+    (λ c. omega (arith, c .before .before .before .pre .0 .low, c .before .before .before .pre .1 .0 .0))
+    (λ c. omega (arith, c .before .before .before .pre .0 .low, c .before .before .before .pre .1 .0 .0))
+    (λ c. omega (arith, c .before .before .before .pre .0 .low, c .before .before .before .pre .1 .0 .0))
     shared-slice-read-at
     cast-at
     loop-holds
     (λ c. search needs)
     meet-requires
+    (λ c. omega (arith, c .before .before .before .before .before .before .before .before .before .before .pre .0 .low))
     add-at-2
-    mul-at-3
+    mul-at-4
     shared-slice-read-at-2
     cast-at-2
     loop-less

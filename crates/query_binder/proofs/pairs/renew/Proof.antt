@@ -1,5 +1,5 @@
 -- `renew` meets its contract. The invariant: the stamps passed are 0.
-use Prim.Native.Nat.{_-_, _≤_}
+use Prim.Native.Nat.{_*_, _-_, _≤_}
 use native.Mathlib.Omega.{arith}
 use borrow.Author.Needs.{needs}
 use Rattle.query_binder.specs.PairSets.{Cleared}
@@ -8,10 +8,10 @@ use Rattle.query_binder.proofs.pairs.renew.Statement.{statement}
 use Rattle.query_binder.proofs.pairs.renew.Tie as tie
 
 abbrev Inv-loop : tie.InvT-loop
-Inv-loop pairs₀ stamp i₀ pairs i = (34816 ≤ i) × Cleared i pairs
+Inv-loop pairs₀ room stamp i₀ pairs i = (32 * room ≤ i) × Cleared room i pairs
 
 abbrev μ-loop : tie.MeasureT-loop
-μ-loop pairs₀ stamp i₀ pairs i = 69632 - i
+μ-loop pairs₀ room stamp i₀ pairs i = 64 * room - i
 
 pub renew-spec : {M : Type 1} → statement M
 renew-spec =
@@ -20,11 +20,12 @@ renew-spec =
     Inv-loop
     μ-loop
     (λ c. record { small = c .if1 .taken; unused = c .before .pre })
-    (λ c. (omega arith, cleared-none (c .before .pre .size)))
+    (λ c. omega (arith, c .before .pre .low))
+    (λ c. (omega arith, cleared-none (c .before .pre)))
+    (λ c. omega (arith, c .before .loop .inv .1, c .loop-test .taken))
     (λ c. search needs)
+    (λ c. omega (arith, c .before .loop .inv .1, c .loop-test .taken))
     (λ c. omega (arith, c .before .loop .inv .1 .size, c .loop-test .taken))
-    (λ c. search needs)
-    (λ c. search needs)
-    (λ c. (omega (arith, c .before .loop .inv .0), cleared-more _ _ (c .before .loop .inv .1) (c .loop-test .taken)))
+    (λ c. (omega (arith, c .before .loop .inv .0), cleared-more _ _ (c .before .loop .inv .1) (omega (arith, c .before .loop .inv .1 .size, c .loop-test .taken))))
     (λ c. omega (arith, c .before .loop .inv .1 .size, c .before .before .before .pre .size))
-    (λ c. renewed-all _ _ (c .before .loop .inv .1) (c .loop-test .left)))
+    (λ c. renewed-all _ _ (c .before .loop .inv .1) (omega (arith, c .before .loop .inv .1 .size, c .loop-test .left))))

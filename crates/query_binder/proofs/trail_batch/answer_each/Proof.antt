@@ -11,10 +11,10 @@ use Rattle.query_binder.proofs.trail_batch.answer_each.Statement.{state
 use Rattle.query_binder.proofs.trail_batch.answer_each.Tie as tie
 
 abbrev Inv-loop : tie.InvT-loop
-Inv-loop heads moves index names input answers₀ pairs₀ stamp₀ read₀ answered₀ answers pairs stamp read answered = Going (AnsweredByTrails heads moves) input answers₀ read answered answers × Unused stamp pairs
+Inv-loop heads moves room index names input answers₀ pairs₀ stamp₀ read₀ answered₀ answers pairs stamp read answered = Going (AnsweredByTrails heads moves) input answers₀ read answered answers × Unused room stamp pairs
 
 abbrev μ-loop : tie.MeasureT-loop
-μ-loop heads moves index names input answers₀ pairs₀ stamp₀ read₀ answered₀ answers pairs stamp read answered = length answers₀ - answered
+μ-loop heads moves room index names input answers₀ pairs₀ stamp₀ read₀ answered₀ answers pairs stamp read answered = length answers₀ - answered
 
 answer-requires : tie.Need-answer-requires Inv-loop μ-loop
 answer-requires c κs =

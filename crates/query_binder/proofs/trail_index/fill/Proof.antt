@@ -1,85 +1,68 @@
 -- `fill` meets its contract. The invariant: the first k transitions are in the index.
-use mathlib.Core.Path.{_≡_, sym, ap, _∙_}
-use Prim.Native.Nat.{ℕ, _-_, _≤_}
+use mathlib.Core.Path.{_≡_, refl}
+use Prim.Native.Nat.{_-_, _≤_}
 use native.Mathlib.Omega.{arith}
 use borrow.Author.Needs.{needs}
-use lib.ListN.{length, length-set, length-replicate}
+use lib.ListN.{length, length-set}
 use Rattle.query_simulation.specs.Transitions.{transition-count}
 use Rattle.query_binder.specs.TrailIndex.{Indexed}
-use Rattle.query_binder.specs.TrailIndexLaws.{indexed-none, slot-below, indexed-next}
+use Rattle.query_binder.specs.TrailIndexLaws.{slot-below, indexed-next}
 use Rattle.query_binder.proofs.trail_index.fill.Statement.{statement}
 use Rattle.query_binder.proofs.trail_index.fill.Tie as tie
 
 abbrev Inv-loop : tie.InvT-loop
-Inv-loop moves index₀ count k₀ index k = (k ≤ count) × Indexed moves index k
+Inv-loop moves room index₀ count chained k₀ index k = (k ≤ count) × ((length index ≡ length index₀) × Indexed room moves index k)
 
 abbrev μ-loop : tie.MeasureT-loop
-μ-loop moves index₀ count k₀ index k = count - k
-
-loop-holds : tie.Need-loop-holds Inv-loop μ-loop
-loop-holds c = (omega arith, indexed-none (c .before .before .pre .0) (c .before .before .pre .1 .0) (c .before .before .pre .1 .1))
+μ-loop moves room index₀ count chained k₀ index k = count - k
 
 mul-index : tie.Need-mul-index Inv-loop μ-loop
 mul-index c =
-    let entry = c .before .before .before .before .before in
-    omega (arith, c .list-at .ensures, slot-below (entry .pre .0) (c .before .loop-test .taken))
+    let at-loop = c .before .before .loop .inv .1 .1 in
+    omega (arith, at-loop .low, slot-below at-loop (c .before .loop-test .taken) (c .list-at .ensures))
 
 slice-read-index : tie.Need-slice-read-index Inv-loop μ-loop
 slice-read-index c =
-    let entry = c .before .before .before .before .before .before in
-    omega (arith, c .before .list-at .ensures, slot-below (entry .pre .0) (c .before .before .loop-test .taken), c .before .before .before .loop .inv .1 .size)
+    let at-loop = c .before .before .before .loop .inv .1 .1 in
+    omega (arith, at-loop .size, slot-below at-loop (c .before .before .loop-test .taken) (c .before .list-at .ensures))
 
 add-index : tie.Need-add-index Inv-loop μ-loop
-add-index c =
-    let entry = c .before .before .before .before .before .before in
-    omega (arith, c .before .before .loop-test .taken, entry .pre .1 .0)
+add-index c = let at-loop = c .before .before .before .loop .inv .1 .1 in omega (arith, at-loop .low, at-loop .few, c .before .before .loop-test .taken)
 
 mul-index-2 : tie.Need-mul-index-2 Inv-loop μ-loop
-mul-index-2 c =
-    let entry = c .before .before .before .before .before .before in
-    omega (arith, c .before .before .loop-test .taken, entry .pre .1 .0)
+mul-index-2 c = let at-loop = c .before .before .before .loop .inv .1 .1 in omega (arith, at-loop .low, at-loop .few, c .before .before .loop-test .taken)
 
 slice-write-index : tie.Need-slice-write-index Inv-loop μ-loop
-slice-write-index c =
-    let entry = c .before .before .before .before .before .before in
-    omega (arith, c .before .before .loop-test .taken, entry .pre .1 .0, c .before .before .before .loop .inv .1 .size)
+slice-write-index c = let at-loop = c .before .before .before .loop .inv .1 .1 in omega (arith, at-loop .size, c .before .before .loop-test .taken)
 
 add-index-2 : tie.Need-add-index-2 Inv-loop μ-loop
-add-index-2 c =
-    let entry = c .before .before .before .before .before .before in
-    omega (arith, c .before .before .loop-test .taken, entry .pre .1 .0)
+add-index-2 c = let at-loop = c .before .before .before .loop .inv .1 .1 in omega (arith, at-loop .few, c .before .before .loop-test .taken)
 
 cast-index : tie.Need-cast-index Inv-loop μ-loop
-cast-index c =
-    let entry = c .before .before .before .before .before .before in
-    omega (arith, c .before .before .loop-test .taken, entry .pre .1 .0)
+cast-index c = let at-loop = c .before .before .before .loop .inv .1 .1 in omega (arith, at-loop .few, c .before .before .loop-test .taken)
 
 mul-index-3 : tie.Need-mul-index-3 Inv-loop μ-loop
 mul-index-3 c =
-    let entry = c .before .before .before .before .before .before in
-    omega (arith, c .before .list-at .ensures, slot-below (entry .pre .0) (c .before .before .loop-test .taken))
+    let at-loop = c .before .before .before .loop .inv .1 .1 in
+    omega (arith, at-loop .low, slot-below at-loop (c .before .before .loop-test .taken) (c .before .list-at .ensures))
 
 slice-write-index-2 : tie.Need-slice-write-index-2 Inv-loop μ-loop
 slice-write-index-2 c =
-    let entry = c .before .before .before .before .before .before in
-    simp length-set (omega (arith, c .before .list-at .ensures, slot-below (entry .pre .0) (c .before .before .loop-test .taken), c .before .before .before .loop .inv .1 .size))
+    let at-loop = c .before .before .before .loop .inv .1 .1 in
+    simp length-set (omega (arith, at-loop .size, slot-below at-loop (c .before .before .loop-test .taken) (c .before .list-at .ensures)))
 
 add-k : tie.Need-add-k Inv-loop μ-loop
-add-k c =
-    let entry = c .before .before .before .before .before .before in
-    omega (arith, c .before .before .loop-test .taken, entry .pre .1 .0)
+add-k c = let at-loop = c .before .before .before .loop .inv .1 .1 in omega (arith, at-loop .few, c .before .before .loop-test .taken)
 
 loop-again : tie.Need-loop-again Inv-loop μ-loop
 loop-again c =
-    (omega (arith, c .before .before .loop-test .taken), indexed-next (c .before .before .before .loop .inv .1) (c .before .before .loop-test .taken) (c .before .list-at .ensures))
-
-same-length : tie.Need-same-length Inv-loop μ-loop
-same-length c =
-    c .before .loop .inv .1 .size ∙ sym (ap length (c .before .before .before .before .pre .1 .1) ∙ length-replicate {A = ℕ} 9216 0)
+    let at-loop = c .before .before .before .loop .inv in
+    let taken = c .before .before .loop-test .taken in
+    (omega (arith, taken), (simp length-set (at-loop .1 .0), indexed-next (at-loop .1 .1) taken (c .before .list-at .ensures)))
 
 returns : tie.Need-returns Inv-loop μ-loop
 returns c =
-    let e : c .before .loop .k ≡ transition-count (c .before .before .before .before .args .moves .now) = omega (arith, c .before .loop .inv .0, c .loop-test .left) in rw e at (c .before .loop .inv .1)
+    let e : c .before .loop .k ≡ transition-count (c .before .before .before .before .args .moves .now) = omega (arith, c .before .loop .inv .0, c .loop-test .left) in rw e at (c .before .loop .inv .1 .1)
 
 pub fill-spec : {M : Type 1} → statement M
 fill-spec =
@@ -87,7 +70,8 @@ fill-spec =
     (tie.spec
     Inv-loop
     μ-loop
-    loop-holds
+    (λ c. omega (arith, c .before .before .pre .low))
+    (λ c. (omega arith, (refl, c .before .before .pre)))
     (λ c κs. search needs)
     mul-index
     slice-read-index
@@ -101,5 +85,5 @@ fill-spec =
     add-k
     (λ c. omega (arith, c .before .before .loop-test .taken))
     loop-again
-    same-length
+    (λ c. c .before .loop .inv .1 .0)
     returns)
