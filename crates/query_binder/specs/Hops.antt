@@ -44,7 +44,8 @@ module _ (moves : List ℕ) where
     -- along the link before, backwards
     abbrev pub Back : (p i y : ℕ) → Type 0
     Back p i y =
-        (i ≡ suc (place-of y)) × (place-of y < length w) × (inv (getD w (place-of y) 0) < epsilon) × Arrow moves p (inv (getD w (place-of y) 0)) (state-of y)
+        (i ≡ suc (place-of y)) × (place-of y < length w) × (inv (getD w (place-of y) 0) < epsilon)
+        × Arrow moves p (inv (getD w (place-of y) 0)) (state-of y)
 
     -- the hops from the pair x to the pair y
     abbrev pub Hops : (x y : ℕ) → Type 0

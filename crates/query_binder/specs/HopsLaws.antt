@@ -38,71 +38,77 @@ module _ (moves : List ℕ) (k a i : ℕ) {room stamp : ℕ} {s : List ℕ} {cou
   pub met-other : (label-at moves k ≡ a → ⊥) → PairSet room stamp s count → Gains room stamp (Meets moves k a i) s count s count
   met-other e good = gains-none good (Meets moves k a i) (λ y h. absurd (e (h .0)))
 
-module _ {room : ℕ} {moves index : List ℕ} (indexed : Indexed room moves index (transition-count moves)) {stamp p a i : ℕ} {s : List ℕ} {count : ℕ} where
-  -- a walk along the list for p and a begins with no transition met
-  pub walked-start : slot p a < 2 * room → PairSet room stamp s count → Walked moves room stamp p a i (getD index (slot p a) 0) s count s count
-  walked-start small good =
-      let here : Latest (slot-at moves) (slot p a) (transition-count moves) (getD index (slot p a) 0) = indexed .linked .last (slot p a) small in
-      record {
-        low = here .low;
-        own = here .own;
-        gains = gains-none good _ (λ y h. absurd (here .none-later (h .number) (h .later) (h .inside) (h .own)));
-      }
-
-  -- one more transition is met
-  module _ {t : List ℕ} {more entry : ℕ} (so-far : Walked moves room stamp p a i entry s count t more) (some : 0 < entry) where
-    pub next-less : getD index (2 * room + (entry - 1)) 0 < entry
-    next-less = linked.next-less (slot-at moves) (2 * room) index (transition-count moves) (indexed .linked) (slot p a) entry (so-far .low) (so-far .own) some
-
-    next-own : 0 < getD index (2 * room + (entry - 1)) 0 → slot-at moves (getD index (2 * room + (entry - 1)) 0 - 1) ≡ slot p a
-    next-own = linked.next-own (slot-at moves) (2 * room) index (transition-count moves) (indexed .linked) (slot p a) entry (so-far .low) (so-far .own) some
-
-    met : (k : ℕ) → getD index (2 * room + (entry - 1)) 0 ≤ k → slot-at moves k ≡ slot p a → (k ≡ entry - 1) ⊎ (entry ≤ k)
-    met = linked.met (slot-at moves) (2 * room) index (transition-count moves) (indexed .linked) (slot p a) entry (so-far .low) (so-far .own) some
-
-    pub walked-more : {u : List ℕ} {all : ℕ} → Gains room stamp (Meets moves (entry - 1) a i) t more u all
-        → Walked moves room stamp p a i (getD index (2 * room + (entry - 1)) 0) s count u all
-    walked-more one =
+module _ {room : ℕ} {moves index : List ℕ} (indexed : Indexed room moves index (transition-count moves)) {stamp p a i : ℕ} {s : List ℕ} {count : ℕ}
+  where
+    -- a walk along the list for p and a begins with no transition met
+    pub walked-start : slot p a < 2 * room → PairSet room stamp s count → Walked moves room stamp p a i (getD index (slot p a) 0) s count s count
+    walked-start small good =
+        let here : Latest (slot-at moves) (slot p a) (transition-count moves) (getD index (slot p a) 0) = indexed .linked .last (slot p a) small in
         record {
-          low = omega (arith, next-less, so-far .low);
-          own = next-own;
-          gains = gains-as to-listed from-listed (gains-on (so-far .gains) one);
+          low = here .low;
+          own = here .own;
+          gains = gains-none good _ (λ y h. absurd (here .none-later (h .number) (h .later) (h .inside) (h .own)));
         }
-      where
-        to-listed : (y : ℕ) → Listed moves p a i entry y ⊎ Meets moves (entry - 1) a i y → Listed moves p a i (getD index (2 * room + (entry - 1)) 0) y
-        to-listed y (inl h) = record { number = h .number; later = omega (arith, next-less, h .later); inside = h .inside; own = h .own; meets = h .meets }
-        to-listed y (inr h) =
-            record { number = entry - 1; later = omega (arith, next-less); inside = omega (arith, so-far .low); own = so-far .own some; meets = h }
 
-        from-listed : (y : ℕ) → Listed moves p a i (getD index (2 * room + (entry - 1)) 0) y → Listed moves p a i entry y ⊎ Meets moves (entry - 1) a i y
-        from-listed y h = by-number (met (h .number) (h .later) (h .own))
-          where
-            by-number : (h .number ≡ entry - 1) ⊎ (entry ≤ h .number) → Listed moves p a i entry y ⊎ Meets moves (entry - 1) a i y
-            by-number (inl e) = inr (rw e at (h .meets))
-            by-number (inr l) = inl (record { number = h .number; later = l; inside = h .inside; own = h .own; meets = h .meets })
+    -- one more transition is met
+    module _ {t : List ℕ} {more entry : ℕ} (so-far : Walked moves room stamp p a i entry s count t more) (some : 0 < entry) where
+      pub next-less : getD index (2 * room + (entry - 1)) 0 < entry
+      next-less =
+          linked.next-less (slot-at moves) (2 * room) index (transition-count moves) (indexed .linked) (slot p a) entry (so-far .low) (so-far .own) some
 
-  -- every transition from p with the label a has been met
-  pub walked-all : {t : List ℕ} {more : ℕ} → i < 32 → Walked moves room stamp p a i 0 s count t more → Gains room stamp (By moves p a i) s count t more
-  walked-all near all = gains-as to-by from-by (all .gains)
-    where
-      to-by : (y : ℕ) → Listed moves p a i 0 y → By moves p a i y
-      to-by y h =
-          let label : label-at moves (h .number) ≡ a = h .meets .0 in
-          let from : from-at moves (h .number) ≡ p = omega (arith, h .own, label) in (
-            pair-place y (to-at moves (h .number)) i near (h .meets .1),
-            rw (pair-state y (to-at moves (h .number)) i near (h .meets .1), ← from, ← label) (arrow-at moves (h .number) (h .inside)),
-          )
+      next-own : 0 < getD index (2 * room + (entry - 1)) 0 → slot-at moves (getD index (2 * room + (entry - 1)) 0 - 1) ≡ slot p a
+      next-own =
+          linked.next-own (slot-at moves) (2 * room) index (transition-count moves) (indexed .linked) (slot p a) entry (so-far .low) (so-far .own) some
 
-      from-by : (y : ℕ) → By moves p a i y → Listed moves p a i 0 y
-      from-by y h =
-          let n : Numbered moves p a (state-of y) = numbered moves p a (state-of y) (h .1) in
+      met : (k : ℕ) → getD index (2 * room + (entry - 1)) 0 ≤ k → slot-at moves k ≡ slot p a → (k ≡ entry - 1) ⊎ (entry ≤ k)
+      met = linked.met (slot-at moves) (2 * room) index (transition-count moves) (indexed .linked) (slot p a) entry (so-far .low) (so-far .own) some
+
+      pub walked-more : {u : List ℕ} {all : ℕ} → Gains room stamp (Meets moves (entry - 1) a i) t more u all
+          → Walked moves room stamp p a i (getD index (2 * room + (entry - 1)) 0) s count u all
+      walked-more one =
           record {
-            number = n .number;
-            later = omega arith;
-            inside = n .inside;
-            own = rw (n .from-is, n .label-is) refl;
-            meets = (n .label-is, omega (arith, n .to-is, h .0));
+            low = omega (arith, next-less, so-far .low);
+            own = next-own;
+            gains = gains-as to-listed from-listed (gains-on (so-far .gains) one);
           }
+        where
+          to-listed : (y : ℕ) → Listed moves p a i entry y ⊎ Meets moves (entry - 1) a i y
+              → Listed moves p a i (getD index (2 * room + (entry - 1)) 0) y
+          to-listed y (inl h) = record { number = h .number; later = omega (arith, next-less, h .later); inside = h .inside; own = h .own; meets = h .meets }
+          to-listed y (inr h) =
+              record { number = entry - 1; later = omega (arith, next-less); inside = omega (arith, so-far .low); own = so-far .own some; meets = h }
+
+          from-listed : (y : ℕ) → Listed moves p a i (getD index (2 * room + (entry - 1)) 0) y
+              → Listed moves p a i entry y ⊎ Meets moves (entry - 1) a i y
+          from-listed y h = by-number (met (h .number) (h .later) (h .own))
+            where
+              by-number : (h .number ≡ entry - 1) ⊎ (entry ≤ h .number) → Listed moves p a i entry y ⊎ Meets moves (entry - 1) a i y
+              by-number (inl e) = inr (rw e at (h .meets))
+              by-number (inr l) = inl (record { number = h .number; later = l; inside = h .inside; own = h .own; meets = h .meets })
+
+    -- every transition from p with the label a has been met
+    pub walked-all : {t : List ℕ} {more : ℕ} → i < 32 → Walked moves room stamp p a i 0 s count t more
+        → Gains room stamp (By moves p a i) s count t more
+    walked-all near all = gains-as to-by from-by (all .gains)
+      where
+        to-by : (y : ℕ) → Listed moves p a i 0 y → By moves p a i y
+        to-by y h =
+            let label : label-at moves (h .number) ≡ a = h .meets .0 in
+            let from : from-at moves (h .number) ≡ p = omega (arith, h .own, label) in (
+              pair-place y (to-at moves (h .number)) i near (h .meets .1),
+              rw (pair-state y (to-at moves (h .number)) i near (h .meets .1), ← from, ← label) (arrow-at moves (h .number) (h .inside)),
+            )
+
+        from-by : (y : ℕ) → By moves p a i y → Listed moves p a i 0 y
+        from-by y h =
+            let n : Numbered moves p a (state-of y) = numbered moves p a (state-of y) (h .1) in
+            record {
+              number = n .number;
+              later = omega arith;
+              inside = n .inside;
+              own = rw (n .from-is, n .label-is) refl;
+              meets = (n .label-is, omega (arith, n .to-is, h .0));
+            }
 
 -- the hops ahead and back are those by one label
 module _ (moves : List ℕ) (w : Chain) (p i : ℕ) {room stamp : ℕ} {s : List ℕ} {count : ℕ} where
@@ -127,7 +133,8 @@ module _ (moves : List ℕ) (w : Chain) (p i : ℕ) {room stamp : ℕ} {s : List
 
 -- the hops of a pair, kind by kind
 module _ (moves : List ℕ) (w : Chain) where
-  to-hop : (p i y : ℕ) → (By moves p 128 i y ⊎ Ahead moves w p i y) ⊎ Back moves w p i y → Hop (transitions-in moves) (laid w) p i (state-of y) (place-of y)
+  to-hop : (p i y : ℕ) → (By moves p 128 i y ⊎ Ahead moves w p i y) ⊎ Back moves w p i y
+      → Hop (transitions-in moves) (laid w) p i (state-of y) (place-of y)
   to-hop p i y (inl (inl (e, m))) = rw e (quiet m)
   to-hop p i y (inl (inr (l, e, small, m))) = rw e (ahead (record { from = i; role = getD w i 0; to = suc i }) (laid-member w i l) small m)
   to-hop p i y (inr (e, l, small, m)) =

@@ -23,7 +23,8 @@ use Rattle.query_binder.specs.PairSetsLaws.{still-member, marked-decides
 use Rattle.query_binder.specs.PairReach.{Reaching}
 
 module _ {moves : List ℕ} {w : Chain} {room stamp head begin : ℕ} where
-  pub reaching-start : begin < 32 → {s t : List ℕ} {count : ℕ} → Gains room stamp (λ y. y ≡ pair head begin) s 0 t count → Reaching moves w room stamp head begin 0 t count
+  pub reaching-start : begin < 32 → {s t : List ℕ} {count : ℕ} → Gains room stamp (λ y. y ≡ pair head begin) s 0 t count
+      → Reaching moves w room stamp head begin 0 t count
   reaching-start near {t = t} g =
       record {
         good = g .good;
@@ -37,7 +38,8 @@ module _ {moves : List ℕ} {w : Chain} {room stamp head begin : ℕ} where
 
   -- the hops of one more member are added
   module _ {n : ℕ} {s : List ℕ} {count : ℕ} (so-far : Reaching moves w room stamp head begin n s count) where
-    pub reaching-more : n < count → {t : List ℕ} {more : ℕ} → Gains room stamp (Hops moves w (getD s n 0)) s count t more → Reaching moves w room stamp head begin (n + 1) t more
+    pub reaching-more : n < count → {t : List ℕ} {more : ℕ} → Gains room stamp (Hops moves w (getD s n 0)) s count t more
+        → Reaching moves w room stamp head begin (n + 1) t more
     reaching-more inside {t} {more} g =
         record {
           good = g .good;
@@ -47,8 +49,8 @@ module _ {moves : List ℕ} {w : Chain} {room stamp head begin : ℕ} where
           closed = λ i l y h. closed i l y h (lt-or-le i n);
         }
       where
-        sound : (i : ℕ) → i < more → (u j : ℕ) → Leads (transitions-in moves) (laid w) u j (state-of (getD t i 0)) (place-of (getD t i 0)) → (i < count) ⊎ (count ≤ i)
-            → Leads (transitions-in moves) (laid w) u j head begin
+        sound : (i : ℕ) → i < more → (u j : ℕ) → Leads (transitions-in moves) (laid w) u j (state-of (getD t i 0)) (place-of (getD t i 0))
+            → (i < count) ⊎ (count ≤ i) → Leads (transitions-in moves) (laid w) u j head begin
         sound i l u j v (inl k) = so-far .sound i k u j (rw (g .kept i k) at v)
         sound i l u j v (inr k) = so-far .sound n inside u j (hop (g .came i k l) v)
 
@@ -82,7 +84,8 @@ module _ {moves : List ℕ} {w : Chain} {room stamp head begin : ℕ} where
             let there : (state-of (pair q k) ≡ q) × (place-of (pair q k) ≡ k) = (pair-state _ q k next refl, pair-place _ q k next refl) in
             onward next v (so-far .closed (m .place) (omega (arith, m .inside)) (pair q k) (rw (here .0, here .1, there .0, there .1) h))
 
-        pub reaching-decides : begin < 32 → Reflects (eqb (getD s (32 * room + pair t j) 0) stamp) (Leads (transitions-in moves) (laid w) t j head begin)
+        pub reaching-decides : begin < 32
+            → Reflects (eqb (getD s (32 * room + pair t j) 0) stamp) (Leads (transitions-in moves) (laid w) t j head begin)
         reaching-decides l =
             let d = marked-decides (so-far .good) (pair t j) (omega arith) in
             record { holds = λ h. found (d .holds h); fails = λ h v. d .fails h (onward l v (so-far .start)) }

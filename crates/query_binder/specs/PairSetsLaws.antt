@@ -14,7 +14,8 @@ use Rattle.base.specs.Pigeonhole.{pigeonhole}
 use Rattle.query_binder.specs.PairSets.{Member, PairSet, Unused, Gains, Cleared, Renewed}
 
 -- a member stays one
-pub still-member : {room stamp : ℕ} {H : ℕ → Type 0} {s : List ℕ} {count : ℕ} {t : List ℕ} {more x : ℕ} → Gains room stamp H s count t more → Member s count x → Member t more x
+pub still-member : {room stamp : ℕ} {H : ℕ → Type 0} {s : List ℕ} {count : ℕ} {t : List ℕ} {more x : ℕ} → Gains room stamp H s count t more
+    → Member s count x → Member t more x
 still-member g m = record { place = m .place; inside = omega (arith, g .grows, m .inside); here = g .kept (m .place) (m .inside) ∙ m .here }
 
 -- zeros are older than every stamp
@@ -58,7 +59,10 @@ module _ {room : ℕ} (i : ℕ) (s : List ℕ) (so-far : Cleared room i s) where
 
   pub renewed-all : 64 * room ≤ i → Renewed room s 1
   renewed-all l =
-      record { small = omega arith; unused = record { low = so-far .low; size = so-far .size; older = λ x k. rw (so-far .clear x (omega arith)) (omega arith) } }
+      record {
+        small = omega arith;
+        unused = record { low = so-far .low; size = so-far .size; older = λ x k. rw (so-far .clear x (omega arith)) (omega arith) };
+      }
 
 module _ {room stamp : ℕ} {s : List ℕ} {count : ℕ} (good : PairSet room stamp s count) where
   -- a newer stamp is unused

@@ -12,6 +12,7 @@ LowHeads heads n = (i : ℕ) → i < n → getD heads i 0 < 63
 abbrev pub LowStates : (moves : List ℕ) (n : ℕ) → Type 0
 LowStates moves n = (k : ℕ) → k < n → (from-at moves k < 64) × (to-at moves k < 64)
 
+-- at most 192 transitions, between states below 64, and initial states that are so with the next state
 pub record Small (heads moves : List ℕ) : Type 0 where
   pub few : transition-count moves ≤ 192
   pub heads-low : LowHeads heads (length heads)

@@ -25,7 +25,7 @@ module _ {room : ℕ} {moves : List ℕ} where
       }
 
   -- one more transition enters
-  module _ {index : List ℕ} {k : ℕ} (so-far : Indexed room moves index k) (l : k < transition-count moves) {list : ℕ} (e : list ≡ slot-at moves k) where
+  module _ {index : List ℕ} {k list : ℕ} (so-far : Indexed room moves index k) (l : k < transition-count moves) (e : list ≡ slot-at moves k) where
     -- its list is one of them
     pub slot-below : list < 2 * room
     slot-below = let f = so-far .fit k l in omega (arith, e, f .from-fits, f .label-fits)

@@ -13,6 +13,11 @@ Inv-loop pairs₀ room stamp i₀ pairs i = (32 * room ≤ i) × Cleared room i 
 abbrev μ-loop : tie.MeasureT-loop
 μ-loop pairs₀ room stamp i₀ pairs i = 64 * room - i
 
+loop-again : tie.Need-loop-again Inv-loop μ-loop
+loop-again c =
+    let at-loop = c .before .loop .inv in
+    (omega (arith, at-loop .0), cleared-more _ _ (at-loop .1) (omega (arith, at-loop .1 .size, c .loop-test .taken)))
+
 pub renew-spec : {M : Type 1} → statement M
 renew-spec =
     tie.close
@@ -26,6 +31,6 @@ renew-spec =
     (λ c. search needs)
     (λ c. omega (arith, c .before .loop .inv .1, c .loop-test .taken))
     (λ c. omega (arith, c .before .loop .inv .1 .size, c .loop-test .taken))
-    (λ c. (omega (arith, c .before .loop .inv .0), cleared-more _ _ (c .before .loop .inv .1) (omega (arith, c .before .loop .inv .1 .size, c .loop-test .taken))))
+    loop-again
     (λ c. omega (arith, c .before .loop .inv .1 .size, c .before .before .before .pre .size))
     (λ c. renewed-all _ _ (c .before .loop .inv .1) (omega (arith, c .before .loop .inv .1 .size, c .loop-test .left))))

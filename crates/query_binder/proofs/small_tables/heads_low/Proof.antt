@@ -20,7 +20,8 @@ loop-again : tie.Need-loop-again Inv-loop μ-loop
 loop-again c =
     let entry = c .before .before .before .before in
     let at-loop = c .before .before .before .loop in
-    (omega (arith, c .before .before .loop-test .taken), below-more (λ (i : ℕ). getD (entry .args .heads .now) i 0 < 63) (at-loop .i) (at-loop .inv .1) (omega (arith, c .if1 .left)))
+    let low = below-more (λ (i : ℕ). getD (entry .args .heads .now) i 0 < 63) (at-loop .i) (at-loop .inv .1) (omega (arith, c .if1 .left)) in
+    (omega (arith, c .before .before .loop-test .taken), low)
 
 returns-2 : tie.Need-returns-2 Inv-loop μ-loop
 returns-2 c =

@@ -8,7 +8,12 @@ use Rattle.query_binder.proofs.small_tables.is_small.Tie as tie
 
 returns-3 : tie.Need-returns-3
 returns-3 c =
-    λ h. record { few = omega (arith, c .before .before .before .if1 .left); heads-low = c .before .before .heads-low .ensures (not-false _ (c .before .if2 .left)); states-low = c .states-low .ensures h }
+    λ h.
+    record {
+      few = omega (arith, c .before .before .before .if1 .left);
+      heads-low = c .before .before .heads-low .ensures (not-false _ (c .before .if2 .left));
+      states-low = c .states-low .ensures h;
+    }
 
 pub is-small-spec : {M : Type 1} → statement M
 is-small-spec =

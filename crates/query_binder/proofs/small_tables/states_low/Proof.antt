@@ -20,8 +20,9 @@ loop-again : tie.Need-loop-again Inv-loop μ-loop
 loop-again c =
     let moves = c .before .before .before .before .before .before .args .moves .now in
     let at-loop = c .before .before .before .before .before .loop in
-    let low : (from-at moves (at-loop .k) < 64) × (to-at moves (at-loop .k) < 64) = (omega (arith, c .before .before .if1 .left), omega (arith, c .if2 .left)) in
-    (omega (arith, c .before .before .before .before .loop-test .taken), below-more (λ (k : ℕ). (from-at moves k < 64) × (to-at moves k < 64)) (at-loop .k) (at-loop .inv .1) low)
+    let Low : ℕ → Type 0 = λ k. (from-at moves k < 64) × (to-at moves k < 64) in
+    let low = below-more Low (at-loop .k) (at-loop .inv .1) (omega (arith, c .before .before .if1 .left), omega (arith, c .if2 .left)) in
+    (omega (arith, c .before .before .before .before .loop-test .taken), low)
 
 returns-3 : tie.Need-returns-3 Inv-loop μ-loop
 returns-3 c =

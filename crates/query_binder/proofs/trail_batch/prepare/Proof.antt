@@ -14,7 +14,10 @@ returns-2 : tie.Need-returns-2
 returns-2 c =
     let entry = c .before .before .before .before .before .before .before .before .before in
     let named = c .before .before .before .before .before .names-in .ensures in
-    record { named = named; held = λ some. record { inside = entry .pre (λ z. some (named ∙ z)) .inside; indexed = c .before .before .fill .ensures } }
+    record {
+      named = named;
+      held = λ some. record { inside = entry .pre (λ z. some (named ∙ z)) .inside; indexed = c .before .before .fill .ensures };
+    }
 
 pub prepare-spec : {M : Type 1} → statement M
 prepare-spec =

@@ -62,7 +62,10 @@ loop-again c =
 
 returns : tie.Need-returns Inv-loop μ-loop
 returns c =
-    let e : c .before .loop .k ≡ transition-count (c .before .before .before .before .args .moves .now) = omega (arith, c .before .loop .inv .0, c .loop-test .left) in rw e at (c .before .loop .inv .1 .1)
+    let moves = c .before .before .before .before .args .moves .now in
+    let at-loop = c .before .loop in
+    let e : at-loop .k ≡ transition-count moves = omega (arith, at-loop .inv .0, c .loop-test .left) in
+    rw e at (at-loop .inv .1 .1)
 
 pub fill-spec : {M : Type 1} → statement M
 fill-spec =
