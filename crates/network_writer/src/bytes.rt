@@ -68,9 +68,11 @@ fn put_row(set: u64, places: usize, start: usize, network: &mut [u8]) -> usize
     if set == 0 {
         return put_zeros(places, start, network);
     }
+    let mut rest = set;
     let mut to = 0;
     while to < places {
-        network[start + to] = ((set >> to) & 1) as u8;
+        network[start + to] = (rest & 1) as u8;
+        rest = rest / 2;
         to += 1;
     }
     start + places
