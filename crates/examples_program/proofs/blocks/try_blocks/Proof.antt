@@ -9,7 +9,6 @@ pub try-blocks-spec : {M : Type 1} → statement M
 try-blocks-spec =
     tie.close
     (tie.spec
-    (λ c. search needs)
     (λ c κs. search needs)
     (λ c. sym (puts-length (c .before .before .«open» .ensures .puts)))
     (λ c κs. search needs)
