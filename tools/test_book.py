@@ -581,6 +581,9 @@ class Owl(InFolder):
 
 FIVE = ["due: part part sits let", "due: sits part let", "inv due: inv let inv sits inv part", "due:", "due: due"]
 NO_LINK = CAUSES[13]
+# What is said of due: sits let and due: let.
+TWO_ASKED = "due: sits let: yes, binds\ndue: let: no, does not bind\n"
+TWO_DERIVED = "due: sits let: yes, derived\ndue: let: no, not derived\n"
 
 
 class Ask(WithEngine):
@@ -590,12 +593,19 @@ class Ask(WithEngine):
     def test_hall_book(self) -> None:
         self.write("hall.txt", HALL_TEXT)
         answers = (
-            "due: part part sits let: yes\ndue: sits part let: no\ninv due: inv let inv sits inv part: yes\n"
-            f"due: (no link): refused 13: {NO_LINK}\ndue: due: yes\n"
+            "due: part part sits let: yes, binds\ndue: sits part let: no, does not bind\n"
+            "inv due: inv let inv sits inv part: yes, binds\n"
+            f"due: (no link): refused 13: {NO_LINK}\ndue: due: yes, binds\n"
         )
         self.assertEqual(self.ask("hall.txt", *FIVE), (1, answers, ""))
         self.assertEqual(self.ask("hall.txt", stdin="# asked\n\n" + "\n".join(FIVE)), (1, answers, ""))
         self.assertEqual(self.ask("hall.txt", FIVE[0], FIVE[1]).status, 0)
+
+    def test_a_chain_that_binds_and_is_not_derived(self) -> None:
+        self.write("van.txt", VAN_TEXT)
+        told = self.ask("van.txt", "covers: serves", "inv covers: inv serves", "serves: covers")
+        answers = "covers: serves: yes, binds\ninv covers: inv serves: yes, binds\nserves: covers: no, does not bind\n"
+        self.assertEqual(told, (0, answers, ""))
 
     def test_options_stand_anywhere(self) -> None:
         self.write("hall.txt", HALL_TEXT)
@@ -604,7 +614,7 @@ class Ask(WithEngine):
         for place in range(4):
             words = ["hall.txt", "due: due", "due: let"]
             words[place:place] = option
-            self.assertEqual(self.ask(*words), (0, "due: due: yes\ndue: let: no\n", ""))
+            self.assertEqual(self.ask(*words), (0, "due: due: yes, binds\ndue: let: no, does not bind\n", ""))
 
     def test_no_question_tells_of_the_book(self) -> None:
         self.write("hall.txt", HALL_TEXT)
@@ -634,7 +644,7 @@ class Ask(WithEngine):
         ]:
             told = f"{column}: {message}\n"
             asked = self.ask("hall.txt", "due: sits let", question, "due: let")
-            self.assertEqual(asked, (1, "due: sits let: yes\ndue: let: no\n", f"question:2:{told}"))
+            self.assertEqual(asked, (1, TWO_ASKED, f"question:2:{told}"))
             self.assertEqual(self.ask("hall.txt", stdin=f"# asked\n\n{question}\n"), (1, "", f"stdin:3:{told}"))
 
     def test_refused_books(self) -> None:
@@ -650,25 +660,26 @@ class Ask(WithEngine):
 
     def test_long_chains(self) -> None:
         self.write("b.txt", "names p\np p -> p\n")
-        refused = f"refused 13: {NO_LINK}"
-        for links, answer in [(16, "yes"), (1025, refused), (65535, refused)]:
+        long, refused = f"refused 15: {CAUSES[15]}", f"refused 13: {NO_LINK}"
+        for links, answer in [(16, "yes, binds"), (17, long), (1024, long), (1025, refused), (65535, refused)]:
             question = "p:" + " p" * links
             told = self.ask("b.txt", stdin=f"{question}\np: p\n").output
-            self.assertEqual(told, f"{question}: {answer}\np: p: yes\n")
+            self.assertEqual(told, f"{question}: {answer}\np: p: yes, binds\n")
         told = self.ask("b.txt", stdin="p:" + " p" * 65536)
         self.assertEqual(told, (1, "", "stdin:1:131074: more than 65,535 links\n"))
 
     def test_names_with_colons(self) -> None:
         self.write("b.txt", "names a:b a:\na: -> a:b\n")
-        self.assertEqual(self.ask("b.txt", "a:b: a:", "a:: a:b"), (0, "a:b: a:: yes\na:: a:b: no\n", ""))
+        answers = "a:b: a:: yes, binds\na:: a:b: no, does not bind\n"
+        self.assertEqual(self.ask("b.txt", "a:b: a:", "a:: a:b"), (0, answers, ""))
 
     def test_folder(self) -> None:
         self.write("hall/book.txt", HALL_TEXT)
         self.assertEqual(self.ask("hall", "due: sits let"), (1, "", "hall/book.rlb: No such file or directory\n"))
         Path("hall/book.rlb").write_bytes(HALL_BYTES)
-        self.assertEqual(self.ask("hall", "due: sits let"), (0, "due: sits let: yes\n", ""))
+        self.assertEqual(self.ask("hall", "due: sits let"), (0, "due: sits let: yes, binds\n", ""))
         Path("hall/book.txt").unlink()
-        self.assertEqual(self.ask("hall", "r3: r1 r2"), (0, "r3: r1 r2: yes\n", ""))
+        self.assertEqual(self.ask("hall", "r3: r1 r2"), (0, "r3: r1 r2: yes, binds\n", ""))
 
     def test_folder_with_another_text(self) -> None:
         Path("hall").mkdir()
@@ -676,7 +687,7 @@ class Ask(WithEngine):
         for text in ("names part sits let due\n", "names part/sits\n"):
             self.write("hall/book.txt", text)
             told = self.ask("hall", "r3: r1 r2")
-            self.assertEqual((told.status, told.output), (0, "r3: r1 r2: yes\n"))
+            self.assertEqual((told.status, told.output), (0, "r3: r1 r2: yes, binds\n"))
             self.assertIn("hall/book.txt: does not pack to book.rlb", told.errors)
 
     def test_folder_with_damaged_bytes(self) -> None:
@@ -690,7 +701,8 @@ class Ask(WithEngine):
         book = read_owl(DOCUMENT.format(both + "SubObjectPropertyOf(:p ObjectInverseOf(:q))"))
         self.write("b.txt", text_form.write(book))
         told = self.ask("b.txt", "p: inv p", "q: q q q", "q: p inv p q", "p: q")
-        self.assertEqual(told, (0, "p: inv p: yes\nq: q q q: yes\nq: p inv p q: yes\np: q: no\n", ""))
+        answers = ["p: inv p: yes", "q: q q q: yes", "q: p inv p q: yes"]
+        self.assertEqual(told, (0, "".join(f"{yes}, binds\n" for yes in answers) + "p: q: no, does not bind\n", ""))
 
     def test_equivalences_have_no_order(self) -> None:
         for axiom in ("InverseObjectProperties(:p :q)", "EquivalentObjectProperties(:p :q)"):
@@ -707,8 +719,9 @@ class AskDerived(InFolder):
     def test_hall_book(self) -> None:
         self.write("hall.txt", HALL_TEXT)
         answers = (
-            "due: part part sits let: yes\ndue: sits part let: no\ninv due: inv let inv sits inv part: yes\n"
-            f"due: (no link): refused 13: {NO_LINK}\ndue: due: yes\n"
+            "due: part part sits let: yes, derived\ndue: sits part let: no, not derived\n"
+            "inv due: inv let inv sits inv part: yes, derived\n"
+            f"due: (no link): refused 13: {NO_LINK}\ndue: due: yes, derived\n"
         )
         self.assertEqual(self.ask("hall.txt", *FIVE), (1, answers, ""))
         self.assertEqual(self.ask("hall.txt", stdin="\n".join(FIVE)), (1, answers, ""))
@@ -717,15 +730,16 @@ class AskDerived(InFolder):
     def test_a_chain_that_binds_and_is_not_derived(self) -> None:
         self.write("van.txt", VAN_TEXT)
         told = self.ask("van.txt", "covers: serves", "covers: serves inv serves serves")
-        self.assertEqual(told, (0, "covers: serves: no\ncovers: serves inv serves serves: yes\n", ""))
+        answers = "covers: serves: no, not derived\ncovers: serves inv serves serves: yes, derived\n"
+        self.assertEqual(told, (0, answers, ""))
 
     def test_long_chains(self) -> None:
         self.write("b.txt", "names p q\np p -> p\n")
-        refused = f"refused 13: {NO_LINK}"
-        for links, answer in [(16, "yes"), (17, "yes"), (1024, "yes"), (1025, refused), (65535, refused)]:
+        yes, refused = "yes, derived", f"refused 13: {NO_LINK}"
+        for links, answer in [(16, yes), (17, yes), (1024, yes), (1025, refused), (65535, refused)]:
             question = "p:" + " p" * links
             told = self.ask("b.txt", stdin=f"{question}\nq: p p\n").output
-            self.assertEqual(told, f"{question}: {answer}\nq: p p: no\n")
+            self.assertEqual(told, f"{question}: {answer}\nq: p p: no, not derived\n")
 
     def test_refused_books(self) -> None:
         large = "".join(f"{left} " * 8 + f"-> {right}\n" for left, right in ("rs", "st", "tu", "uv"))
@@ -747,12 +761,12 @@ class AskDerived(InFolder):
         self.write("hall.txt", HALL_TEXT)
         told = self.ask("hall.txt", "due: sits let", "due: lit", "due: let")
         wrong = "question:2:6: unknown name 'lit'\n"
-        self.assertEqual(told, (1, "due: sits let: yes\ndue: let: no\n", wrong))
+        self.assertEqual(told, (1, TWO_DERIVED, wrong))
 
     def test_the_program_is_not_looked_for(self) -> None:
         self.write("hall.txt", HALL_TEXT)
         os.environ[engine.VARIABLE] = "/none"
-        self.assertEqual(self.ask("hall.txt", "due: due"), (0, "due: due: yes\n", ""))
+        self.assertEqual(self.ask("hall.txt", "due: due"), (0, "due: due: yes, derived\n", ""))
 
 
 VAN_TEXT = """\
@@ -1076,7 +1090,7 @@ class Page(WithEngine):
                 told = run(*shlex.split(command))
                 self.assertEqual(told.errors + told.output, shown, command)
                 tried += 1
-        self.assertEqual(tried, 10)
+        self.assertEqual(tried, 11)
 
 
 class EngineRun(InFolder):
@@ -1123,11 +1137,11 @@ RUNS = [
     (["unpack", "hall.rlb"], 0, "names r0 r1 r2 r3\n\nr0 r0 -> r0\nr0 r1 -> r1\nr1 r2 -> r3\n", ""),
     (["unpack", "short.rlb"], 1, "", f"short.rlb: no well-formed book, cause 1 with 0: {CAUSES[1]}\n"),
     (["ask", "hall.txt"], 0, "book: 16 states, 18 moves, depth 3\n", ""),
-    (["ask", "hall.txt", "due: sits let", "due: let"], 0, "due: sits let: yes\ndue: let: no\n", ""),
-    (["ask", "hall.txt", "due: due", "due:"], 1, f"due: due: yes\ndue: (no link): refused 13: {CAUSES[13]}\n", ""),
+    (["ask", "hall.txt", "due: sits let", "due: let"], 0, TWO_ASKED, ""),
+    (["ask", "hall.txt", "due: due", "due:"], 1, f"due: due: yes, binds\ndue: (no link): refused 13: {NO_LINK}\n", ""),
     (["ask", "hall.txt", "due: lit"], 1, "", "question:1:6: unknown name 'lit'\n"),
     (["ask", "circle.txt", "a: b"], 1, f"book refused 8 1: {CAUSES[8]}: rule 1, b -> a\n", ""),
-    (["ask", "hall.txt", "--derived", "due: sits let", "due: let"], 0, "due: sits let: yes\ndue: let: no\n", ""),
+    (["ask", "hall.txt", "--derived", "due: sits let", "due: let"], 0, TWO_DERIVED, ""),
     (["why", "hall.txt", "due: sits let", "due: let"], 0, f"due: sits let: yes\n{WHYS[0][2]}{NO_DUE}", ""),
     (["why", "hall.txt", "due: let", "--svg", "no.svg"], 0, NO_DUE, ""),
     (["why", "hall.txt", "due:"], 1, f"due: (no link): refused 13: {CAUSES[13]}\n", ""),

@@ -47,10 +47,11 @@ Puts questions to the proved engine and shows its answers. A question is
 ROLE: CHAIN, such as 'due: part part sits let'. Without a question given, they
 are read from standard input, one a line.
 
-Yes is said where the chain is derived: where replacements by the rules lead
-from the role to the chain, of 1 to 1,024 links. The program answers, or with
---derived the archive. Every derived chain binds, which is what `why` tells of;
-not every chain that binds is derived."""
+The program answers for chains of 1 to 16 links: yes, binds, where the role
+links the chain's ends in every finite network that obeys the rules and holds
+the chain. With --derived the archive answers, for 1 to 1,024 links: yes,
+derived, where replacements by the rules lead from the role to the chain. Every
+derived chain binds; not every chain that binds is derived."""
 WHY = """\
 Tells why chains bind a role or do not. A question is as for `ask`, with at
 most 16 links. After a yes come the asked role and a line for each step of a

@@ -17,6 +17,10 @@ from .model import Book, Rule
 from .questions import Question, read_questions
 from .source import Source
 
+# What a yes and a no of `ask` say, by the question that was put.
+BINDS = {"yes": "yes, binds", "no": "no, does not bind"}
+DERIVED = {"yes": "yes, derived", "no": "no, not derived"}
+
 
 def pack(args: Namespace) -> int:
     book = text_form.read(read_source(args.text))
@@ -65,8 +69,9 @@ def ask(args: Namespace) -> int:
         tell_refused(said.refusal, asked.book.rules)
     elif not questions and not faults.messages:
         print(f"book: {said.states} states, {said.moves} moves, depth {said.depth}")
+    meaning = DERIVED if args.derived else BINDS
     for question, answer in zip(questions, said.answers):
-        print(f"{question}: {answer_words(answer)}")
+        print(f"{question}: {answer_words(meaning.get(answer, answer))}")
     faults.settle()
     return 0 if said.all_answered() else 1
 
