@@ -18,8 +18,8 @@ use Rattle.book_format.specs.DecodeLaws.{Decoded, decoded}
 use Rattle.book_format.specs.ReadLaws.{read-decode}
 use Rattle.book_causes.specs.Ordered.{ordered}
 use Rattle.book_causes.specs.OrderedRun.{ordered-read}
-use Rattle.query_causes.specs.Query.{chain-fits}
-use Rattle.book_questions.specs.ShortQuestion.{short-question, asked-book}
+use Rattle.query_causes.specs.Query.{chain-fits, short-question}
+use Rattle.book_questions.specs.ShortQuestion.{asked-book}
 
 -- what causes 13 to 15 settle
 pub record Short (names r : ℕ) (w : Chain) : Type 0 where
@@ -28,7 +28,7 @@ pub record Short (names r : ℕ) (w : Chain) : Type 0 where
   pub link-named : (k : ℕ) → k < length w → getD w k 0 < 2 * names
 
 module _ (b : Book) (r : ℕ) (w : Chain) (d : Book) where
-  short : short-question b r w ≡ ok d → (b ≡ d) × Short (b .names) r w
+  short : short-question (b .names) r w b ≡ ok d → (b ≡ d) × Short (b .names) r w
   short h = by-chain (chain-fits w) h
     where
       by-names : (t : Bool) → named (b .names) (r ∷ w) ≡ t
@@ -58,7 +58,7 @@ pub asked : (s : List ℕ) (r : ℕ) (w : Chain) (b : Book) → asked-book s r w
 unfolding asked-book
 asked s r w b h = by-result (ordered s) refl h
   where
-    by-result : (x : Result Book) → ordered s ≡ x → and-then x (λ d. short-question d r w) ≡ ok b → Asked s r w b
+    by-result : (x : Result Book) → ordered s ≡ x → and-then x (λ d. short-question (d .names) r w d) ≡ ok b → Asked s r w b
     by-result (refused c v) e q = absurd (refused-ok c v b q)
     by-result (ok d) e q =
         let f = short d r w b q in

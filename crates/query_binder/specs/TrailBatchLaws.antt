@@ -19,7 +19,7 @@ use Rattle.byte_parts.specs.Bytes.{between}
 use Rattle.networks.specs.LaidChain.{laid}
 use Rattle.table_trails.specs.TableTrails.{Leads, begin, end, TablesBind}
 use Rattle.query_causes.specs.ManyQueries.{names-in, query-for, cause-of, whole-size}
-use Rattle.query_causes.specs.Query.{transitions-in, query}
+use Rattle.query_causes.specs.Query.{transitions-in, short-chain, query}
 use Rattle.query_simulation.specs.QueryLaws.{query-names, cause-none, cause-some, askable}
 use Rattle.query_simulation.specs.TablesLaws.{Tables}
 use Rattle.query_simulation.specs.Transitions.{Fit}
@@ -29,7 +29,7 @@ use Rattle.query_binder.specs.Hops.{Ground}
 use Rattle.query_binder.specs.SmallTables.{Small}
 use Rattle.query_binder.specs.TrailBatch.{Held, Tabled, AnsweredAt}
 use Rattle.query_binder.specs.TrailIndexLaws.{indexed-zeros}
-use Rattle.query_correctness.specs.TrailQuery.{short-chain, short-query, AnsweredByTrails}
+use Rattle.query_correctness.specs.TrailQuery.{short-query, AnsweredByTrails}
 
 -- from where to where a chain is asked, as the test of the role tells
 module _ (moves : List ℕ) (r : ℕ) (w : Chain) (h : ℕ) {t : Bool} (test : t ≡ eqb (polarity r) 1) {b : Bool} where
@@ -79,8 +79,8 @@ module _ {room : ℕ} {heads moves index : List ℕ} {names : ℕ} (tabled : Tab
   by-bytes byte = answered-as q read e some role chain (AnsweredByTrails heads moves) byte
 
   module _ {cause : ℕ} (found : cause ≡ cause-of (query-for names r w)) where
-    short-after : {x : Result (Unit {0})} → query-for names r w ≡ x → short-query heads moves r w ≡ and-then x (λ _. short-chain w)
-    short-after f = ap (λ (y : Result (Unit {0})). and-then y (λ _. short-chain w)) (query-names heads moves r w (tabled .named) ∙ f)
+    short-after : {x : Result (Unit {0})} → query-for names r w ≡ x → short-query heads moves r w ≡ and-then x (λ _. short-chain w tt)
+    short-after f = ap (λ (y : Result (Unit {0})). and-then y (λ _. short-chain w tt)) (query-names heads moves r w (tabled .named) ∙ f)
 
     pub asked-refused : (cause ≡ 0 → ⊥) → AnsweredAt heads moves (drop read q) cause
     asked-refused bad =

@@ -1,4 +1,4 @@
--- A question put to tables (document 01, "Tables", last paragraph): causes 12 to 14, and the answer. The tables are any numbers; a book
+-- A question put to tables (document 01, "Tables", last paragraph): causes 12 to 15, and the answer. The tables are any numbers; a book
 -- need not have given them.
 use mathlib.Core.Bool.{Bool, true, _&&_}
 use mathlib.Core.List.{List, [], _∷_}
@@ -8,7 +8,7 @@ use lib.ListN.{length, getD}
 use Rattle.roles.specs.Role.{Chain, name, polarity, turn}
 use Rattle.tables.specs.Tables.{Transition}
 use Rattle.tables.specs.Path.{Path}
-use Rattle.base.specs.Result.{Result, demand}
+use Rattle.base.specs.Result.{Result, demand, and-then}
 use Rattle.base.specs.Result.Result.{ok}
 use Rattle.base.specs.Decision.{Decision}
 use Rattle.book_format.specs.Format.{named}
@@ -43,6 +43,14 @@ chain-fits w = leb 1 (length w) && leb (length w) 1024
 -- causes 13 and 14, in this order, for so many names
 abbrev pub question : ℕ → ℕ → Chain → Result (Unit {0})
 question n r w = demand (chain-fits w) 13 0 (demand (named n (r ∷ w)) 14 0 (ok tt))
+
+-- cause 15, of questions that take at most 16 links; what is handed on else
+abbrev pub short-chain : {A : Type 0} → Chain → A → Result A
+short-chain w a = demand (leb (length w) 16) 15 0 (ok a)
+
+-- causes 13, 14 and 15, in this order, for so many names
+abbrev pub short-question : {A : Type 0} → ℕ → ℕ → Chain → A → Result A
+short-question n r w a = and-then (question n r w) (λ _. short-chain w a)
 
 -- causes 12, 13 and 14, in this order
 unfoldable pub query : (heads moves : List ℕ) → ℕ → Chain → Result (Unit {0})

@@ -4,15 +4,10 @@ use Prim.Native.Nat.{ℕ}
 use Rattle.roles.specs.Role.{Chain}
 use Rattle.roles.specs.Rule.{Book}
 use Rattle.base.specs.Decision.{Decision}
-use Rattle.base.specs.Result.{Result, and-then}
+use Rattle.base.specs.Result.{Result}
 use Rattle.networks.specs.Network.{Binds}
-use Rattle.query_causes.specs.Query.{question}
-use Rattle.query_correctness.specs.TrailQuery.{short-chain}
-
--- causes 13, 14 and 15, in this order, for so many names
-abbrev pub short-question : ℕ → ℕ → Chain → Result (Unit {0})
-short-question n r w = and-then (question n r w) (λ _. short-chain w)
+use Rattle.query_causes.specs.Query.{short-question}
 
 -- the answer to a question about an accepted book: the first refusal met; else yes, exactly where the chain binds the role
 abbrev pub DecidedByBinding : Book → ℕ → Chain → Result Bool → Type 0
-DecidedByBinding b r w = Decision (short-question (b .names) r w) (Binds (b .rules) r w)
+DecidedByBinding b r w = Decision (short-question (b .names) r w tt) (Binds (b .rules) r w)

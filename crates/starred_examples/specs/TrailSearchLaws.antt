@@ -22,10 +22,10 @@ use Rattle.table_trails.specs.TableTrails.{Hop, Leads, begin, end, TablesBind}
 use Rattle.table_trails.specs.TableTrails.Hop.{quiet, ahead, back}
 use Rattle.table_trails.specs.TableTrails.Leads.{stop, hop}
 use Rattle.book_causes.specs.Accepted.{heads-of, moves-of, built}
-use Rattle.query_causes.specs.Query.{transitions-in, Answered}
+use Rattle.query_causes.specs.Query.{transitions-in, short-chain, Answered}
 use Rattle.query_correctness.specs.Reply.{Decided}
 use Rattle.query_correctness.specs.ReplyLaws.{decided}
-use Rattle.query_correctness.specs.TrailQuery.{short-chain, short-query}
+use Rattle.query_correctness.specs.TrailQuery.{short-query}
 use Rattle.query_correctness.specs.BindingReply.{DecidedByBinding}
 use Rattle.query_correctness.specs.BindingReplyLaws.{short, decided-by-binding}
 use Rattle.starred_examples.specs.Checks.{all, all-every, same-pair, same-pair-sound}
@@ -128,7 +128,7 @@ module _ (s : List ℕ) (heads moves : ℕ) (b : Book) (e : built s heads moves 
       by-path : (a : Result Bool) → short-query hs ns r w ≡ ok tt → Answered hs ns r w a → shown hs ns r w a ≡ true → DecidedByBinding b r w a
       by-path _ f (refuses c v q) t =
           decided-by-binding s heads moves b e r w (refused c v)
-          (refuses c v (ap (λ (x : Result (Unit {0})). and-then x (λ _. short-chain w)) q))
+          (refuses c v (ap (λ (x : Result (Unit {0})). and-then x (λ _. short-chain w tt)) q))
       by-path _ f (yes q path) t = derived f (decided s heads moves b e r w (ok true) (yes q path))
       by-path _ f (no q none) t = decided-by-binding s heads moves b e r w (ok false) (no f (no-hops-none hs ns r w t))
 
