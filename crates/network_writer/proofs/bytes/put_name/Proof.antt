@@ -1,6 +1,5 @@
 -- `put_name` meets its contract: empty rows are zeros.
 use native.Mathlib.Omega.{arith}
-use borrow.Author.Needs.{needs}
 use Rattle.network_writer.specs.RowBytesLaws.{name-zeros, puts-size}
 use Rattle.network_writer.proofs.bytes.put_name.Statement.{statement}
 use Rattle.network_writer.proofs.bytes.put_name.Tie as tie
