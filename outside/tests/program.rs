@@ -68,7 +68,8 @@ fn hall() {
     owed(Some(HALL), QUESTIONS, &LINES.concat());
 }
 
-/// Chains that bind and are not derived: serves, inv(serves), serves to covers, and a longer rule over two names.
+/// Chains that bind and are not derived: serves, inv(serves), serves to covers; a longer rule over two names; a way
+/// through a place to itself.
 #[test]
 fn out_and_back() {
     let book = encode(2, &[(2, [0, 1, 0])]);
@@ -89,6 +90,14 @@ fn out_and_back() {
         (question(0, &[2, 5]), "no"),
     ];
     owed_each(&book, "book 18 16 2", &asked);
+    // A link of a place to itself: inv(S) S to T, S T to R.
+    let book = encode(3, &[(4, [3, 2]), (0, [2, 4])]);
+    let asked = [
+        (question(0, &[2]), "yes"),
+        (question(1, &[3]), "yes"),
+        (question(4, &[2]), "no"),
+    ];
+    owed_each(&book, "book 18 18 3", &asked);
 }
 
 /// The first line, and a line for each of the questions.
