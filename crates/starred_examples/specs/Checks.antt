@@ -24,22 +24,30 @@ module _ {A : Type 0} (test : A → Bool) where
   all-every P law (x ∷ xs) h =
       every-cons P (law x (and-left (test x) (all xs) h)) (all-every P law xs (and-right (test x) (all xs) h))
 
+-- a member is the same, where a test says so of two
+module _ {A : Type 0} (same : A → A → Bool) where
+  unfoldable pub among-by : List A → A → Bool
+  among-by [] x = false
+  among-by (y ∷ ys) x = same x y || among-by ys x
+
+  pub among-by-member : ((x y : A) → same x y ≡ true → x ≡ y) → (ys : List A) (x : A) → among-by ys x ≡ true → List·Memᴰ x ys
+  unfolding among-by
+  among-by-member sound [] x h = absurd (false≢true h)
+  among-by-member sound (y ∷ ys) x h = by-place (among-by-member sound ys x) (or-cases (same x y) (among-by ys x) h)
+    where
+      by-place : (among-by ys x ≡ true → List·Memᴰ x ys) → (same x y ≡ true) ⊎ (among-by ys x ≡ true) → List·Memᴰ x (y ∷ ys)
+      by-place rest (inl e) = List·Memᴰ·head (sound x y e)
+      by-place rest (inr e) = List·Memᴰ·tail (rest e)
+
 -- a number is a member
-unfoldable pub among : List ℕ → ℕ → Bool
-among [] q = false
-among (p ∷ ps) q = eqb q p || among ps q
+abbrev pub among : List ℕ → ℕ → Bool
+among = among-by eqb
 
 pub among-member : (ps : List ℕ) (q : ℕ) → among ps q ≡ true → List·Memᴰ q ps
-unfolding among
-among-member [] q h = absurd (false≢true h)
-among-member (p ∷ ps) q h = by-place (among-member ps q) (or-cases (eqb q p) (among ps q) h)
-  where
-    by-place : (among ps q ≡ true → List·Memᴰ q ps) → (eqb q p ≡ true) ⊎ (among ps q ≡ true) → List·Memᴰ q (p ∷ ps)
-    by-place rest (inl e) = List·Memᴰ·head (eqb-true q p e)
-    by-place rest (inr e) = List·Memᴰ·tail (rest e)
+among-member = among-by-member eqb eqb-true
 
 pub member-among : {ps : List ℕ} {q : ℕ} → List·Memᴰ q ps → among ps q ≡ true
-unfolding among
+unfolding among-by
 member-among {q} (List·Memᴰ·head {x} {xs} e) = or-left (eqb q x) (among xs q) (eq-eqb q x e)
 member-among {q} (List·Memᴰ·tail {x} {xs} m) = or-right (eqb q x) (among xs q) (member-among m)
 

@@ -1,6 +1,6 @@
 -- A search that computes for pairs of a state and a place from which hops lead to a given pair, and the answer to a question by both searches: a chain
 -- that a path spells is derived and so binds, and one over which no hops lead does not.
-use mathlib.Core.Bool.{Bool, true, false, not, cond, _&&_, _||_}
+use mathlib.Core.Bool.{Bool, true, false, not, cond, _&&_}
 use mathlib.Core.List.{List, [], _∷_, _++_}
 use Prim.Native.Nat.{ℕ, zero, suc, _+_}
 use lib.Dec.{eqb}
@@ -14,7 +14,7 @@ use Rattle.tables.specs.Tables.{Transition, epsilon}
 use Rattle.table_trails.specs.TableTrails.{begin, end}
 use Rattle.query_causes.specs.Query.{transitions-in}
 use Rattle.query_correctness.specs.TrailQuery.{short-query}
-use Rattle.starred_examples.specs.Checks.{all, same-pair}
+use Rattle.starred_examples.specs.Checks.{all, among-by, same-pair}
 use Rattle.starred_examples.specs.PathSearch.{predecessors, head, all-found, found}
 
 -- each link as two transitions between its places, ahead by its role and back by the inverse
@@ -24,9 +24,8 @@ both-ways (l ∷ ls) =
     record { from = l .from; label = l .role; to = l .to } ∷ record { from = l .to; label = inv (l .role); to = l .from } ∷ both-ways ls
 
 -- a pair is a member
-unfoldable pub has : List (ℕ × ℕ) → ℕ × ℕ → Bool
-has [] x = false
-has (y ∷ ys) x = same-pair x y || has ys x
+abbrev pub has : List (ℕ × ℕ) → ℕ × ℕ → Bool
+has = among-by same-pair
 
 -- pairs, and others put before them that are no members
 unfoldable pub add : List (ℕ × ℕ) → List (ℕ × ℕ) → List (ℕ × ℕ)

@@ -2,12 +2,11 @@
 use mathlib.Core.Bool.{Bool, true, false, not, _&&_, false≢true}
 use mathlib.Core.List.{List, [], _∷_, List·Memᴰ}
 use mathlib.Core.List.List·Memᴰ.{List·Memᴰ·head, List·Memᴰ·tail}
-use mathlib.Core.Logic.{_⊎_, inl, inr}
 use mathlib.Core.Path.{_≡_, refl, ap}
 use Prim.Native.Nat.{ℕ, _+_, _<_}
 use native.Mathlib.Omega.{arith}
 use borrow.Author.Tests.{eq-eqb, ne-eqb}
-use Rattle.base.specs.Truth.{and-left, and-right, or-cases}
+use Rattle.base.specs.Truth.{and-left, and-right}
 use Rattle.base.specs.Decision.Decision.{refuses, yes, no}
 use Rattle.base.specs.Result.{Result, and-then}
 use Rattle.base.specs.Result.Result.{refused, ok}
@@ -28,7 +27,7 @@ use Rattle.query_correctness.specs.ReplyLaws.{decided}
 use Rattle.query_correctness.specs.TrailQuery.{short-query}
 use Rattle.query_correctness.specs.BindingReply.{DecidedByBinding}
 use Rattle.query_correctness.specs.BindingReplyLaws.{short, decided-by-binding}
-use Rattle.starred_examples.specs.Checks.{all, all-every, same-pair, same-pair-sound}
+use Rattle.starred_examples.specs.Checks.{all, all-every, among-by-member, same-pair, same-pair-sound}
 use Rattle.starred_examples.specs.PathSearch.{head, all-found, found}
 use Rattle.starred_examples.specs.PathSearchLaws.{predecessors-has, found-answered}
 use Rattle.starred_examples.specs.TrailSearch.{both-ways, has, at-places, sources, hop-closed, apart, no-hops, answer, shown, sure}
@@ -44,13 +43,7 @@ both-ways-back (List·Memᴰ·head e) = rw e (List·Memᴰ·tail (List·Memᴰ·
 both-ways-back (List·Memᴰ·tail m) = List·Memᴰ·tail (List·Memᴰ·tail (both-ways-back m))
 
 has-member : (xs : List (ℕ × ℕ)) (x : ℕ × ℕ) → has xs x ≡ true → List·Memᴰ x xs
-unfolding has
-has-member [] x h = absurd (false≢true h)
-has-member (y ∷ ys) x h = by-place (has-member ys x) (or-cases (same-pair x y) (has ys x) h)
-  where
-    by-place : (has ys x ≡ true → List·Memᴰ x ys) → (same-pair x y ≡ true) ⊎ (has ys x ≡ true) → List·Memᴰ x (y ∷ ys)
-    by-place rest (inl e) = List·Memᴰ·head (same-pair-sound x y e)
-    by-place rest (inr e) = List·Memᴰ·tail (rest e)
+has-member = among-by-member same-pair same-pair-sound
 
 at-places-has : (p : ℕ) {i : ℕ} {is : List ℕ} → List·Memᴰ i is → List·Memᴰ (p, i) (at-places p is)
 unfolding at-places

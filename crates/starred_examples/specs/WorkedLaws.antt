@@ -30,10 +30,10 @@ use Rattle.transcript_lines.specs.Transcript.{next, Session}
 use Rattle.transcript_lines.specs.Transcript.Session.{refuses as stopped, served}
 use Rattle.base.specs.Every.{Every}
 use Rattle.starred_examples.specs.Worked.{Question, Example, build, examples, Holds}
-use Rattle.starred_examples.specs.Checks.{all, all-every, among, same-pair, same-triple, same-triple-sound, same-result, same-result-sound, same-answer, same-answer-sound}
+use Rattle.starred_examples.specs.Checks.{all, all-every, among-by, same-pair, same-triple, same-triple-sound, same-result, same-result-sound, same-answer, same-answer-sound}
 use Rattle.starred_examples.specs.PathSearch.{predecessors, closure, closed, starts, exhaustive, found, answers}
 use Rattle.starred_examples.specs.PathSearchLaws.{answers-answered}
-use Rattle.starred_examples.specs.TrailSearch.{both-ways, has, add, at-places, sources, sources-by, sources-of, with-sources, reaching, hop-closed, apart, no-hops, answer, shown, sure}
+use Rattle.starred_examples.specs.TrailSearch.{both-ways, add, at-places, sources, sources-by, sources-of, with-sources, reaching, hop-closed, apart, no-hops, answer, shown, sure}
 use Rattle.starred_examples.specs.TrailSearchLaws.{sure-decided}
 use Rattle.starred_examples.specs.SearchLines.{front-lines, lines, front-searched, searched}
 use Rattle.starred_examples.specs.SearchLinesLaws.{lines-transcript}
@@ -104,8 +104,8 @@ test-holds e h =
 
 -- every example passes, by evaluation of the definitions from a book's bytes to its tables, of the searches in these and of the lines
 test-passed : all test examples ≡ true
-unfolding test replies writes examples all among same-pair same-triple same-result decide predecessors closure closed starts exhaustive found answers
-    both-ways has add at-places sources sources-by sources-of with-sources reaching hop-closed apart no-hops answer shown sure laid-from begin end
+unfolding test replies writes examples all among-by same-pair same-triple same-result decide predecessors closure closed starts exhaustive found answers
+    both-ways add at-places sources sources-by sources-of with-sources reaching hop-closed apart no-hops answer shown sure laid-from begin end
     lines front-lines searched front-searched next decimal decimal-from
     built fitting ordered order-from read decode distinct repeats rules-from one-rule front named
     inverse inv-chain inv name polarity same-rule same-chain reaches with-inner shape leads trails
