@@ -11,6 +11,7 @@ get_or-member (a ∷ l) (suc k) d h = Memᴰ.tail (get_or-member l k d (le_of_su
 
 -- where a member stands
 pub member-place : {A : Type 0} (l : List A) {a : A} (d : A) → Memᴰ a l → (k : ℕ) × (k < length l) × (get_or l k d ≡ a)
+member-place [] d m = elim m [ ]
 member-place (a ∷ l) d (Memᴰ.head e) = (0, suc-le-suc zero-le, sym e)
 member-place (a ∷ l) d (Memᴰ.tail m) = let (k, h, e) = member-place l d m in (suc k, suc-le-suc h, e)
 

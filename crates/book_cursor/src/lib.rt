@@ -1,4 +1,6 @@
 // A place in a book's bytes, by value, that hands out one rule after another.
+#![tactic(auto)]
+
 ghost use Rattle.std.specs.Prelude.{◌≡◌};
 ghost use Rattle.book_cursor.specs.Cursor.{step_at};
 

@@ -1,4 +1,6 @@
 // Which rules a byte string holds, or the first cause of document 01, 1 to 6, that refuses it, in one pass over the bytes.
+#![tactic(auto)]
+
 ghost use Rattle.std.specs.Prelude.{[], ◌∷◌, ◌≡◌, ◌+◌, ◌<◌, ◌≤◌, leb, length, drop};
 ghost use Rattle.base.specs.Result.{map_result};
 ghost use Rattle.book_format.specs.Format.{rules_from, named};

@@ -1,4 +1,6 @@
 // The header of a book, its first eight bytes, and the tests of causes 1 to 4, each alone.
+#![tactic(auto)]
+
 ghost use Rattle.std.specs.Prelude.{◌&&◌, ◌≡◌, leb, eqb, length, get_or, take};
 ghost use Rattle.words.specs.Word.{word as word_of};
 ghost use Rattle.roles.specs.Role.{same_chain};

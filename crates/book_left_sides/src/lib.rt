@@ -1,4 +1,6 @@
 // The left sides of a book's rules, as parts of its bytes.
+#![tactic(auto)]
+
 ghost use Rattle.std.specs.Prelude.{true, ◌≡◌};
 ghost use Rattle.book_format.specs.Format.{decode as decode-of};
 ghost use Rattle.book_format.specs.Place.{rule_place, has_rule, left_part};

@@ -1,4 +1,6 @@
 // Reads a book of rules: which book a byte string is, or the first cause of document 01, 1 to 7, that refuses it.
+#![tactic(auto)]
+
 ghost use Rattle.std.specs.Prelude.{not, ◌≡◌, ltb};
 ghost use Rattle.base.specs.Result.{map_result};
 ghost use Rattle.book_format.specs.Format.{read as Read-of};

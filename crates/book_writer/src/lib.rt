@@ -1,4 +1,6 @@
 // Writes a book into lent bytes: its rules one after another from byte 8 on, and the eight bytes in front of them last, when the rules are counted.
+#![tactic(auto)]
+
 ghost use Rattle.std.specs.Prelude.{◌≡◌, ◌+◌, ◌≤◌, length};
 ghost use Rattle.std.proofs.lemmas.List.Edits.{sets};
 ghost use Rattle.book_writer.specs.BookStores.{RulePut, put_header};

@@ -1,4 +1,6 @@
 // Parts of some bytes, of a text or of a book, and how many of them count. Every place is safe.
+#![tactic(auto)]
+
 ghost use Rattle.std.specs.Prelude.{◌≡◌, ◌+◌, get_or, drop};
 ghost use Rattle.byte_parts.specs.Bytes.{ahead, between, copied};
 ghost use Rattle.byte_parts.specs.Least.{Least};

@@ -1,4 +1,6 @@
 // What the calls tell, in numbers: the number of the cause that refuses, or 0, and three more.
+#![tactic(auto)]
+
 ghost use Rattle.base.specs.Result.{map_result};
 ghost use Rattle.base.specs.Result.Result.{refused, ok};
 ghost use Rattle.book_decoder.specs.Verdict.{says};

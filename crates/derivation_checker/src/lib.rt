@@ -1,4 +1,6 @@
 // Checks a written derivation: whether its steps lead from a role to a chain by the rules of a book.
+#![tactic(auto)]
+
 ghost use Rattle.std.specs.Prelude.{◌≡◌, ◌*◌, length};
 ghost use Rattle.base.specs.Result.Result.{ok};
 ghost use Rattle.roles.specs.Role.{same_chain};

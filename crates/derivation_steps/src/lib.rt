@@ -1,4 +1,6 @@
 // Derivations written out in bytes, step by step: definitions and theorems in specs/, and a step read and written.
+#![tactic(auto)]
+
 ghost use Rattle.derivation_steps.specs.StepBytes.{Reads, Puts};
 
 // A replacement: at a place of the present chain, by the rule of a number as it stands (side 0) or by its inverse (side 1).

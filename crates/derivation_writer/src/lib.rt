@@ -1,4 +1,6 @@
 // Writes a derivation out: the steps from a role to a chain, from a chart of the roles that derive its parts.
+#![tactic(auto)]
+
 ghost use Rattle.std.specs.Prelude.{length};
 ghost use Rattle.roles.specs.Rule.{Book};
 ghost use Rattle.derivation_writer.specs.WritesDerivation.{writable, Writes};

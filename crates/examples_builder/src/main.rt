@@ -1,5 +1,7 @@
 // Tries the builder on the hall book of document 01, on books without an order and on every edge of causes 9 to 11. Each line names the book
 // and says what the builder answers; `stdout` holds what it must write.
+#![tactic(auto)]
+
 mod outcomes;
 mod tower;
 

@@ -2,6 +2,8 @@
 // second method, which decides derivation from the rules alone, and shows differences that it must find. Tries the writer and the checker of
 // derivations on every edge of their causes, the writer beside the answerer, and the checker beside a second reading.
 // `stdin` holds what is tried, a line each; `stdout` holds what the program must write.
+#![tactic(auto)]
+
 mod chain;
 mod compare;
 mod counts;

@@ -1,6 +1,8 @@
 // Tries what the program runs: on a missing, an overlong and a refused book; on blocks whose border falls at every place, and input that ends at every
 // place; on chains that bind and are not derived; and, last, on standard input, which holds the longest question, chains on either side of 16 links and
 // of 1,024, and refused chains that are read past. `stdout` holds what it must write.
+#![tactic(auto)]
+
 mod blocks;
 
 use blocks::try_blocks;

@@ -1,5 +1,7 @@
 // Tries the book reader on the hall book of document 01 and on every edge of causes 1 to 7. Each line names the bytes and
 // says what the reader answers; `stdout` holds what it must write.
+#![tactic(auto)]
+
 mod books;
 mod verdicts;
 

@@ -1,4 +1,6 @@
 // Writes the lines of the program into lent bytes: the first line of a book, the lines of answered questions, and the last line.
+#![tactic(auto)]
+
 mod line;
 mod question;
 mod text;

@@ -1,4 +1,6 @@
 // The order check: whether a book has a regular order, cause 8 of document 01, and the levels of its names.
+#![tactic(auto)]
+
 ghost use Rattle.std.specs.Prelude.{true, ◌∷◌, ◌≡◌, ◌≤◌, length};
 ghost use Rattle.order.specs.Closure.{no_order};
 ghost use Rattle.name_sets.specs.Mask.{Holds};

@@ -1,4 +1,6 @@
 // Levels of names by the longest way down, from masks: mask x is the set of the names below name x.
+#![tactic(auto)]
+
 ghost use Rattle.std.specs.Prelude.{◌≡◌, ℕ, max, ◌<◌, ◌≤◌, length, get_or, replicate};
 ghost use Rattle.std.specs.Int.Bits.{bit_or};
 ghost use Rattle.name_sets.specs.Mask.{has};

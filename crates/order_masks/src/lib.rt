@@ -1,1 +1,2 @@
 // Laws alone, in specs/: the order in masks. No code runs here.
+#![tactic(auto)]

@@ -1,5 +1,7 @@
 // What the program does: reads a book's file (a missing one counts as empty) and then questions from standard input, and writes the book's first line
 // and a line for each question. What it says is decided by `transcript_writer`; here are opening, reading, writing and the loop.
+#![tactic(auto)]
+
 ghost use Rattle.std.specs.Prelude.{◌⊎◌, ◌≡◌, ◌<◌, ◌≤◌, length, take};
 ghost use Rattle.io.specs.Counts.{IsPrefixLen};
 ghost use Rattle.query_causes.specs.Input.{is_whole};

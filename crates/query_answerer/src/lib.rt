@@ -1,5 +1,7 @@
 // Answers a question put to tables: whether they accept a chain for a role, or the first cause of document 01, 12 to 14, that refuses
 // the question.
+#![tactic(auto)]
+
 ghost use Rattle.std.specs.Prelude.{◌+◌};
 ghost use Rattle.query_causes.specs.Query.{asked, Answered};
 ghost use Rattle.base.specs.Reflects.{Reflects};

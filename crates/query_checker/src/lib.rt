@@ -1,4 +1,6 @@
 // Checks a question, put to tables or for so many names: the first cause of document 01, 12 to 14, that refuses it.
+#![tactic(auto)]
+
 ghost use Rattle.std.specs.Prelude.{◌≡◌, ltb};
 ghost use Rattle.query_causes.specs.Query.{question, query};
 ghost use Rattle.query_causes.specs.ManyQueries.{names_in, query_for, cause_of};

@@ -1,4 +1,6 @@
 // Builds and asks in one call: whether a chain is derived from a role by the rules of a book. Its promise is demand 3 of document 01, whole.
+#![tactic(auto)]
+
 ghost use Rattle.std.specs.Prelude.{◌≡◌, ◌≤◌, length, get_or, take};
 ghost use Rattle.base.specs.Result.{and_then};
 ghost use Rattle.base.specs.Result.Result.{refused, ok};

@@ -1,4 +1,6 @@
 // Which list of an index by from state, letters apart from silent ones, a transition goes into.
+#![tactic(auto)]
+
 ghost use Rattle.std.specs.Prelude.{◌≡◌};
 ghost use Rattle.query_simulation.specs.TransitionIndex.{list_of};
 

@@ -1,5 +1,7 @@
 // The parts of a question and its answer: where it lies on an input (role byte, number of links, 16 bits, low byte first, links), the state that its role starts
 // from, and its links as they are read. Every place is safe.
+#![tactic(auto)]
+
 ghost use Rattle.std.specs.Prelude.{◌≡◌, get_or, drop};
 ghost use Rattle.roles.specs.Role.{name as name_of};
 ghost use Rattle.byte_parts.specs.Bytes.{between};

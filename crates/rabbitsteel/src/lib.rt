@@ -1,5 +1,7 @@
 // The calls for programs in C and Rust, as a static library. Each returns the number of the cause that refuses its input, or 0, and stores in the
 // numbers lent to it what it tells: counts or an answer, or what document 01 gives beside the cause.
+#![tactic(auto)]
+
 ghost use Rattle.book_format.specs.Format.{read};
 ghost use Rattle.base.specs.Result.{map_result};
 ghost use Rattle.call_numbers.specs.Tells.{Tells, bit};

@@ -1,5 +1,7 @@
 // The reader with the search for repeats that goes rule by rule, as a static library: what the benchmark holds beside `rabbitsteel_read`, whose search
 // goes relation by relation.
+#![tactic(auto)]
+
 ghost use Rattle.base.specs.Result.{map_result};
 ghost use Rattle.book_format.specs.Format.{read};
 ghost use Rattle.call_numbers.specs.Tells.{Tells};

@@ -1,4 +1,6 @@
 // Why a call refuses what it is given, an enum for each kind of call, with document 01's number and value; and what a check finds.
+#![tactic(auto)]
+
 mod book;
 mod book_query;
 mod build;

@@ -1,1 +1,2 @@
 // Theorems alone, in specs/: replacements between chains. No code runs here.
+#![tactic(auto)]

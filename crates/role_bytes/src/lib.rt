@@ -1,4 +1,6 @@
 // Role bytes: twice the name, with bit 0 set for the inverse.
+#![tactic(auto)]
+
 ghost use Rattle.std.specs.Prelude.{◌≡◌, eqb};
 ghost use Rattle.roles.specs.Role.{inv, polarity};
 ghost use Rattle.roles.specs.Role.{name as name_of};

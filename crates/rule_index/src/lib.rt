@@ -1,6 +1,8 @@
 // An index of a book's rules by right name, 3,904 numbers: 14 for each rule, which say its right role, its shape and the next rule of the same
 // right name, then the first rule of each name, then the level of each name, counted from 0, then for each of the three kinds of rules which
 // names have one. 256 stands for no rule.
+#![tactic(auto)]
+
 ghost use Rattle.std.specs.Prelude.{cond, List, ◌≡◌, ◌-◌, ◌<◌, ◌≤◌, length};
 ghost use Rattle.roles.specs.Rule.{Rule};
 ghost use Rattle.rule_index.specs.Filling.{Ruled, Entered, Entering, Started, Linkable, Linking};

@@ -1,4 +1,6 @@
 // A number for each rule, its key, which it shares with its inverse alone.
+#![tactic(auto)]
+
 ghost use Rattle.std.specs.Prelude.{cond, ◌≡◌, ◌≤◌, leb, length};
 ghost use Rattle.roles.specs.Role.{inv_chain};
 ghost use Rattle.rule_keys.specs.Key.{code as code_of_lem, key as key_of};

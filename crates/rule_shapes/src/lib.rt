@@ -1,5 +1,7 @@
 // The shape of a rule, by its letters: which of document 01's five forms it can have, and where its inner roles lie in its left side;
 // and a shape in numbers.
+#![tactic(auto)]
+
 ghost use Rattle.std.specs.Prelude.{true, false, ◌≡◌};
 ghost use Rattle.rule_shapes.specs.FoundShape.{shape_found};
 

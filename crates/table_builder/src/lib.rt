@@ -1,4 +1,6 @@
 // The table builder: causes 1 to 11, and the tables of an accepted book in lent memory.
+#![tactic(auto)]
+
 ghost use Rattle.table_builder.specs.Builds.{Builds};
 
 mod lay;

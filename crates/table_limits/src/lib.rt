@@ -1,4 +1,6 @@
 // Causes 9 to 11: whether the tables of a book are small enough, and the memory for them is lent long enough.
+#![tactic(auto)]
+
 ghost use Rattle.std.specs.Prelude.{◌&&◌, ◌≡◌, ◌*◌, leb};
 ghost use Rattle.refusals.specs.Check.{check};
 ghost use Rattle.table_limits.specs.Limits.{limited, settled, names_of, names_in};

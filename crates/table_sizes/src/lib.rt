@@ -1,1 +1,2 @@
 // Theorems alone, in specs/: how large tables can be. No code runs here.
+#![tactic(auto)]

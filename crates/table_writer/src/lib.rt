@@ -1,4 +1,6 @@
 // Writes transitions into lent numbers, one after another, as far as there is room, and counts them where there is none.
+#![tactic(auto)]
+
 ghost use Rattle.std.specs.Prelude.{◌≡◌};
 ghost use Rattle.table_writer.specs.Adding.{one, adds_place, adds_moves, letters_place, letters_moves};
 

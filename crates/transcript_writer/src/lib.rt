@@ -1,5 +1,7 @@
 // Writes what the program says: the first line of a book, and a line for each question. The input may come in any blocks: what is left of one goes
 // before the next.
+#![tactic(auto)]
+
 mod block;
 mod opening;
 

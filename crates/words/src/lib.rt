@@ -1,4 +1,6 @@
 // 16-bit numbers in bytes, low byte first. Every place is safe.
+#![tactic(auto)]
+
 ghost use Rattle.std.specs.Prelude.{◌≡◌};
 ghost use Rattle.words.specs.Word.{word as word_of};
 
