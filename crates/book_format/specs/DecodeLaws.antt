@@ -3,7 +3,7 @@ use Rattle.std.specs.Prelude.{true, false, ◌&&◌, List, [], ◌∷◌, ◌≡
 use Rattle.std.proofs.lemmas.Bool.{false≢true}
 use Rattle.std.proofs.Math.Path.{refl}
 use Rattle.std.proofs.Common.{sym, ap, ◌∙◌, zero-add, arith, leb-true, ltb-true, ltb-false}
-use borrow.Author.Rules.{zero≤}
+use Rattle.std.proofs.Common.{zero-le}
 use Rattle.std.proofs.Math.ListN.{get_or-eq_default}
 use Rattle.base.specs.Truth.{and_left, and_right}
 use Rattle.roles.specs.Rule.{Rule, Book}
@@ -92,8 +92,8 @@ decoded s b h =
       count = ap length rules ∙ length-first_rules s (word s 6);
       count_most = counts.rules_most;
       rules = rules;
-      whole = λ k p. l.whole k zero≤ (rw zero-add p);
-      named = λ k p. rw l.names (l.named k zero≤ (rw zero-add p));
+      whole = λ k p. l.whole k zero-le (rw zero-add p);
+      named = λ k p. rw l.names (l.named k zero-le (rw zero-add p));
       ends = rw (← zero-add (word s 6)) l.ends;
     }
   where
