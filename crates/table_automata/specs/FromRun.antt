@@ -47,6 +47,7 @@ module _ (ms : List Transition) where
     row_has : {f e : End} {w : Chain} (ss : List Shape) → Memᴰ (row f e w) ss → (i at : ℕ) → Every In (rows_transitions size inside i at ss)
         → (place : ℕ) × Every In (row_transitions size inside (state f i) (state e i) place w)
     unfolding rows_transitions
+    row_has [] m i at has = elim m [ ]
     row_has (transitive ∷ ss) (Memᴰ.head eq) i at has = let z : ◌≡◌ {A = ℕ} 0 1 = cc in absurd (omega arith)
     row_has (transitive ∷ ss) (Memᴰ.tail m) i at has = row_has ss m i at has
     row_has (symmetric ∷ ss) (Memᴰ.head eq) i at has = let z : ◌≡◌ {A = ℕ} 0 1 = cc in absurd (omega arith)
