@@ -4,13 +4,13 @@
 ghost use Rattle.std.specs.Prelude.{◌≡◌};
 ghost use Rattle.book_cursor.specs.Cursor.{step_at};
 
-#[derive(Drop)]
+#[derive(Clone, Copy)]
 pub struct Cursor {
     pub at: usize,
 }
 
 // Where a rule lies: its right role, and the part of the book that holds its left roles.
-#[derive(Drop)]
+#[derive(Clone, Copy)]
 pub struct Entry {
     pub right: u8,
     pub start: usize,
@@ -18,7 +18,7 @@ pub struct Entry {
 }
 
 // What stands at a cursor.
-#[derive(Drop)]
+#[derive(Clone, Copy)]
 pub enum Step {
     // A whole rule, and the cursor past it.
     Rule(Entry, Cursor),

@@ -3,7 +3,7 @@ use book_header::Header;
 use refusals::BookRefusal;
 
 // A well-formed book with its header, or refused.
-#[derive(Drop)]
+#[derive(Clone, Copy)]
 pub enum Verdict {
     WellFormed(Header),
     Refused(BookRefusal),

@@ -12,7 +12,7 @@ use refusals::Check;
 use words::word;
 
 // How many names and rules a book declares.
-#[derive(Drop)]
+#[derive(Clone, Copy)]
 pub struct Header {
     pub names: usize,
     pub rules: usize,

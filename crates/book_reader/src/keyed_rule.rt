@@ -8,7 +8,7 @@ use book_cursor::{Cursor, Step};
 use rule_keys::key;
 
 // The key and the right role of a rule, and the cursor past it.
-#[derive(Drop)]
+#[derive(Clone, Copy)]
 pub(crate) struct KeyedRule {
     pub(crate) key: u64,
     pub(crate) right: u8,

@@ -24,7 +24,7 @@ stores_in_front old w h e fit =
       sets-eq w old 8 fit,
       append_assoc (take 8 old),
       drop_at (take 8 old) (w ++ drop (8 + length w) old) 8 (length-take-le 8 old (omega arith)),
-      append_assoc,
+      append_assoc h w,
     )
     refl
 

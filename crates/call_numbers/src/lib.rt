@@ -21,7 +21,7 @@ use refusals::{BookQueryRefusal, BuildRefusal};
 use table_limits::Outcome;
 
 // What a call tells: the number of the cause, or 0, and three numbers.
-#[derive(Drop)]
+#[derive(Clone, Copy)]
 pub struct Told {
     pub cause: u64,
     pub first: u64,

@@ -4,7 +4,7 @@
 ghost use Rattle.derivation_steps.specs.StepBytes.{Reads, Puts};
 
 // A replacement: at a place of the present chain, by the rule of a number as it stands (side 0) or by its inverse (side 1).
-#[derive(Drop)]
+#[derive(Clone, Copy)]
 pub struct WrittenStep {
     pub place: usize,
     pub number: usize,

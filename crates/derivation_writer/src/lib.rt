@@ -18,7 +18,7 @@ use trace::trace;
 use words::word;
 
 // What is said of a derivation that is asked for.
-#[derive(Drop)]
+#[derive(Clone, Copy)]
 pub enum Derivation {
     // So many steps are written.
     Steps(usize),

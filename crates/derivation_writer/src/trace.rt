@@ -7,7 +7,7 @@ use crate::division::{divide, left_of, pair, rule_by, stands};
 use derivation_steps::{WrittenStep, put_step};
 
 // How far the writing is: the top of the pending roles, how many links stand, how many steps are written.
-#[derive(Drop)]
+#[derive(Clone, Copy)]
 struct Place {
     top: usize,
     link: usize,

@@ -156,7 +156,7 @@ fn outcome(told: Told, judged: Judged, kept: u64) -> u64 {
 }
 
 // What the checker and the second reading make of some steps.
-#[derive(Drop)]
+#[derive(Clone, Copy)]
 struct Judged {
     first: u64,
     second: u64,

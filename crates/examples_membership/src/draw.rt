@@ -2,7 +2,7 @@
 use crate::chain::push;
 
 // What is drawn, and the next seed.
-#[derive(Drop)]
+#[derive(Clone, Copy)]
 pub(crate) struct Drawn {
     pub(crate) seed: u64,
     pub(crate) value: u64,

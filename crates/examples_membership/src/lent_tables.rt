@@ -10,7 +10,7 @@ pub(crate) struct Tables {
 }
 
 // How many numbers are heads and moves, and how many states there are; or the cause of a refusal, else 0.
-#[derive(Drop)]
+#[derive(Clone, Copy)]
 pub(crate) struct Sizes {
     pub(crate) heads: usize,
     pub(crate) moves: usize,

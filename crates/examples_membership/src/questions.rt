@@ -5,7 +5,7 @@ use crate::chain::{below, push, splice};
 use crate::draw::{Drawn, draw, draw_links, draw_small};
 
 // A question: its kind, its role and its chain; and the next seed.
-#[derive(Drop)]
+#[derive(Clone, Copy)]
 pub(crate) struct Question {
     pub(crate) kind: u64,
     pub(crate) role: u64,

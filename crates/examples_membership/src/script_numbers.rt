@@ -2,7 +2,7 @@
 use byte_parts::byte;
 
 // A number of up to five digits, the place after the byte that ends it, and whether that is a space: then another of its list follows.
-#[derive(Drop)]
+#[derive(Clone, Copy)]
 pub(crate) struct Number {
     pub(crate) value: usize,
     pub(crate) next: usize,

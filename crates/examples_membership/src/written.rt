@@ -8,7 +8,7 @@ use refusals::BookQueryRefusal;
 pub(crate) const BLANK: u8 = 165;
 
 // The cause of a refusal, and the value beside it; or cause 0 with 1 for yes or 0 for no, and the number of steps, where the writer told it.
-#[derive(Drop)]
+#[derive(Clone, Copy)]
 pub(crate) struct Told {
     pub(crate) cause: u64,
     pub(crate) yes: u64,

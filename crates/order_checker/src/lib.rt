@@ -90,7 +90,7 @@ fn gather(book: &[u8], header: Header, masks: &mut [u64]) -> Verdict
 }
 
 // What adding a rule finds.
-#[derive(Drop)]
+#[derive(Clone, Copy)]
 pub enum Gathered {
     // The order goes on, with what the rule forces.
     Extends,

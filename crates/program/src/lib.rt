@@ -15,7 +15,7 @@ use transcript_writer::Tables;
 const LONGEST: usize = 65538;
 
 // Why the program stops.
-#[derive(Drop)]
+#[derive(Clone, Copy)]
 pub enum Stop {
     // The book is refused, and its line is written.
     Refused,

@@ -13,7 +13,7 @@ use query_checker::{cause_for, names_in};
 use query_parts::{head, links, whole};
 
 // How many questions are answered, and how many bytes of the input they take.
-#[derive(Drop)]
+#[derive(Clone, Copy)]
 pub struct Batch {
     pub answered: usize,
     pub read: usize,

@@ -13,7 +13,7 @@ use checks::{chain_fits, roles_fit, tables_fit};
 use refusals::{Check, QueryRefusal};
 
 // What is found of a question.
-#[derive(Drop)]
+#[derive(Clone, Copy)]
 pub enum QueryVerdict {
     // It is one to answer.
     Fits,

@@ -16,7 +16,7 @@ use refusals::{BuildRefusal, QueryRefusal};
 use table_builder::Outcome;
 
 // What a question about a book is answered with.
-#[derive(Drop)]
+#[derive(Clone, Copy)]
 pub enum Reply {
     // The chain is derived from the role.
     Yes,

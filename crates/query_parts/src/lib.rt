@@ -16,7 +16,7 @@ use role_bytes::{inverse, is_inverse, name};
 use words::word;
 
 // What a question is answered with.
-#[derive(Drop)]
+#[derive(Clone, Copy)]
 pub enum Answer {
     // Some path spells the chain.
     Yes,

@@ -2,7 +2,7 @@
 ghost use Rattle.std.specs.Prelude.{◌≡◌};
 ghost use Rattle.refusals.specs.BookRefusals.{book_cause, book_value};
 
-#[derive(Drop)]
+#[derive(Clone, Copy)]
 pub enum BookRefusal {
     // Fewer than 8 bytes or more than 2,568.
     Size,

@@ -5,7 +5,7 @@ ghost use Rattle.refusals.specs.BookQueryRefusals.{book_query_cause, book_query_
 use crate::book::{BookRefusal, book_cause, book_value};
 use crate::query::{QueryRefusal, query_cause};
 
-#[derive(Drop)]
+#[derive(Clone, Copy)]
 pub enum BookQueryRefusal {
     // Causes 1 to 8.
     Book(BookRefusal),

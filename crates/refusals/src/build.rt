@@ -4,7 +4,7 @@ ghost use Rattle.refusals.specs.BuildRefusals.{build_cause, build_value};
 
 use crate::book::{BookRefusal, book_cause, book_value};
 
-#[derive(Drop)]
+#[derive(Clone, Copy)]
 pub enum BuildRefusal {
     // Causes 1 to 8.
     Book(BookRefusal),

@@ -2,7 +2,7 @@
 ghost use Rattle.std.specs.Prelude.{◌≡◌};
 ghost use Rattle.refusals.specs.QueryRefusals.{query_cause};
 
-#[derive(Drop)]
+#[derive(Clone, Copy)]
 pub enum QueryRefusal {
     // Heads or moves that are no tables: too few or too many, or a number out of range.
     Tables,

@@ -15,7 +15,7 @@ use role_bytes::name;
 use rule_shapes::{numbers_of, shape_of};
 
 // The verdict on a book by causes 1 to 8, and its depth: 0 where it is refused.
-#[derive(Drop)]
+#[derive(Clone, Copy)]
 pub struct Indexing {
     pub verdict: Verdict,
     pub depth: usize,

@@ -10,7 +10,7 @@ mod numbers;
 pub use numbers::{Numbers, numbers_of};
 use role_bytes::inverse;
 
-#[derive(Drop)]
+#[derive(Clone, Copy)]
 pub enum Shape {
     // Form 4, R R to R.
     Transitive,
@@ -21,7 +21,7 @@ pub enum Shape {
 }
 
 // The inner roles of a rule, a part of its left side, and the states that they stand between: true for final, false for initial.
-#[derive(Drop)]
+#[derive(Clone, Copy)]
 pub struct Row {
     pub from: bool,
     pub to: bool,

@@ -6,7 +6,7 @@ use crate::Shape;
 
 // The kind, 0 for form 4, 1 for form 5 and 2 for a row; 1 where the row begins, and where it ends, at the final state; and the part of the left
 // side that the inner roles are.
-#[derive(Drop)]
+#[derive(Clone, Copy)]
 pub struct Numbers {
     pub kind: u16,
     pub from: u16,

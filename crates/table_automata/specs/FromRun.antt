@@ -1,6 +1,6 @@
 -- From runs to paths: in any list of transitions that has those of a fragment, a run of the fragment's machine leads on a path that
 -- begins at the state where the run ends.
-use mathlib.Core.List.{List, ◌∷◌, ◌++◌, append_assoc, Memᴰ}
+use mathlib.Core.List.{List, [], ◌∷◌, ◌++◌, append_assoc, Memᴰ}
 use Rattle.std.proofs.Math.Path.{◌≡◌}
 use Rattle.std.specs.Prelude.{refl}
 use Prim.Native.Nat.{ℕ, zero, suc, ◌+◌, ◌*◌, ◌<◌, ◌≤◌}

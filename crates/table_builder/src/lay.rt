@@ -16,7 +16,7 @@ use table_writer::{Place, add, letters};
 
 // The row that a rule adds to a fragment: the states that it leads from and to; where the inner roles stand in the index, how many there are,
 // and whether they are taken inverted, from the last to the first. No inner role says that there is no row.
-#[derive(Drop)]
+#[derive(Clone, Copy)]
 pub struct InnerRow {
     pub from: usize,
     pub to: usize,

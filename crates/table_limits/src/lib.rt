@@ -10,7 +10,7 @@ use refusals::{BuildRefusal, Check};
 
 // How many names, states and transitions the tables have, and the depth of the book: the numbers of the tables are the first `names` heads and
 // the first 3 `transitions` moves.
-#[derive(Drop)]
+#[derive(Clone, Copy)]
 pub struct Counts {
     pub names: usize,
     pub states: usize,
@@ -19,7 +19,7 @@ pub struct Counts {
 }
 
 // What a build says: the counts of the tables written, or refused.
-#[derive(Drop)]
+#[derive(Clone, Copy)]
 pub enum Outcome {
     Built(Counts),
     Refused(BuildRefusal),

@@ -3,7 +3,7 @@
 use Rattle.std.specs.Prelude.{Bool, ◌↔◌, ◌≡◌, ℕ, suc, ◌+◌, ◌*◌, ◌/◌, ◌%◌, ◌<◌, ◌≤◌, length, get_or}
 use mathlib.Core.List.{List, [], Memᴰ}
 use Rattle.std.proofs.Common.{inl, inr, arith, eq-eqb, ne_eqb}
-use Rattle.std.proofs.Math.Logic.{Iff·rfl, Iff·trans}
+use mathlib.Core.Logic.Iff
 use Rattle.base.specs.Reflects.{Reflects}
 use Rattle.base.specs.Truth.{eq_or_ne}
 use Rattle.roles.specs.Role.{Chain, name, polarity, inv}
@@ -34,7 +34,7 @@ asked-reached ρs r w =
           let e : inv (2 * (r / 2)) ≡ r = omega arith in
           let f : inv r ≡ 2 * (r / 2) = omega arith in
           rw (eq-eqb (r % 2) 1 p) (λ t. rw e at (reached-inverse t), λ t. rw f at (reached-inverse t))
-      | inr p ↦ let e : 2 * (r / 2) ≡ r = omega arith in rw (ne_eqb (r % 2) 1 p, e) Iff·rfl
+      | inr p ↦ let e : 2 * (r / 2) ≡ r = omega arith in rw (ne_eqb (r % 2) 1 p, e) Iff.rfl
     ]
 
 module _ (n : ℕ) (ρs : List Rule) (few : n ≤ 64) (named : Named n ρs) (regular : Regular ρs)
@@ -60,7 +60,7 @@ module _ (n : ℕ) (ρs : List Rule) (few : n ≤ 64) (named : Named n ρs) (reg
 
     pub trails_bind : TablesBind (initial_states n ρs) (transitions n ρs) r w ↔ Binds ρs r w
     trails_bind =
-        Iff·trans (leads-reached (name r) (name_below r n small) (laid w) (begin r w) (end r w)) (Iff·trans (asked-reached ρs r w) reached_binds)
+        Iff.trans (leads-reached (name r) (name_below r n small) (laid w) (begin r w) (end r w)) (Iff.trans (asked-reached ρs r w) reached_binds)
 
     -- what says whether the hops lead says whether the chain binds
     pub trails_decide : (b : Bool) → Reflects b (TablesBind (initial_states n ρs) (transitions n ρs) r w) → Reflects b (Binds ρs r w)

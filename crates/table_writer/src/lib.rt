@@ -8,7 +8,7 @@ use role_bytes::inverse;
 
 // The next free state and the number of transitions so far. A state above 2,048 says that the tables are too large; nothing more is laid
 // then. Transitions are counted up to 60,000, far more than tables of 2,048 states have.
-#[derive(Drop)]
+#[derive(Clone, Copy)]
 pub struct Place {
     pub state: usize,
     pub count: usize,

@@ -13,7 +13,7 @@ use query_binder::bind_all;
 
 // How far a block is answered: the number of the next question, how many bytes are kept for it at the front of the input, how many are written, and
 // whether a whole question is left, for which there is no room.
-#[derive(Drop)]
+#[derive(Clone, Copy)]
 pub struct Progress {
     pub number: u64,
     pub kept: usize,
@@ -44,7 +44,7 @@ pub fn answer_block(
 }
 
 // How far the questions are answered: the number of the next one, and how many bytes are read and written.
-#[derive(Drop)]
+#[derive(Clone, Copy)]
 struct Reached {
     number: u64,
     read: usize,

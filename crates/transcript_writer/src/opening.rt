@@ -16,7 +16,7 @@ pub struct Tables {
 }
 
 // Tables that are empty where the book is refused, how many bytes the first line has, and whether the book is accepted.
-#[derive(Drop)]
+#[derive(Clone, Copy)]
 pub struct Opening {
     pub tables: Tables,
     pub written: usize,
@@ -49,7 +49,7 @@ pub fn open(book: &[u8], line: &mut [u8; 72]) -> Opening
 }
 
 // A build in numbers: whether the book is accepted, the numbers of its first line, and how many heads and transitions count.
-#[derive(Drop)]
+#[derive(Clone, Copy)]
 struct Report {
     accepted: bool,
     first: u64,

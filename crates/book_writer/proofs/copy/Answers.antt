@@ -1,0 +1,13 @@
+use mathlib.Core.Path.{◌≡◌}
+use Prim.Native.Nat.{◌-◌, ◌≤◌}
+use native.Mathlib.Omega.{arith}
+use borrow.Author.Rules.{rules}
+use lib.ListN.{length, take, length-set}
+use lib.Seq.{sets}
+use Rattle.book_writer.specs.BookStoreLaws.{copied_more, copied_all}
+use Rattle.book_writer.proofs.copy.Goals as goal
+
+pub loop-i-preserved : goal.loop-i-preserved
+loop-i-preserved c =
+    let inv = c.loop-i.invariant in
+    (omega arith, (copied_more _ _ _ _ _ inv.1.0 c.loop-i-test.true, rw length-set inv.1.1))

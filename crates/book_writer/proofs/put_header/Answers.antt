@@ -1,0 +1,12 @@
+-- `put_header` meets its contract: the copied array is the eight bytes in front.
+use borrow.Author.Rules.{rules}
+use Rattle.book_format.specs.Encode.{header}
+use Rattle.book_writer.specs.BookStoreLaws.{header-short, header-stored}
+use Rattle.book_writer.proofs.put_header.Goals as goal
+
+pub returns : goal.returns
+unfolding header
+returns c = header-stored _ _ _ c.if-book-lt8.false c.copy.ensures
+
+pub returns-then-book-lt8 : goal.returns-then-book-lt8
+returns-then-book-lt8 c = header-short _ _ _ c.if-book-lt8.true
