@@ -4,7 +4,7 @@
 ghost use Rattle.std.specs.Prelude.{[], ◌∷◌, ◌≡◌, ◌+◌, ◌<◌, ◌≤◌, leb, length, drop};
 ghost use Rattle.base.specs.Result.{map_result};
 ghost use Rattle.book_format.specs.Format.{rules_from, named};
-ghost use Rattle.book_format.specs.Format.{decode as decode-of};
+ghost use Rattle.book_format.specs.Format.{decode as decode_of};
 ghost use Rattle.refusals.specs.Check.{check};
 ghost use Rattle.book_decoder.specs.Verdict.{header_of, says};
 ghost use Rattle.book_cursor.specs.Cursor.{entry_rule};
@@ -18,7 +18,7 @@ pub use verdict::Verdict;
 
 // Causes 1 to 6, in one pass.
 pub fn decode(book: &[u8]) -> Verdict
-    ensures { says result ≡ map_result header_of (decode-of book.now) }
+    ensures { says result ≡ map_result header_of (decode_of book.now) }
 {
     let Check::Passed = book_header::sized(book, 2568) else {
         return Verdict::Refused(BookRefusal::Size);

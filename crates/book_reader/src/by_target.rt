@@ -3,7 +3,7 @@
 ghost use Rattle.std.specs.Prelude.{◌≡◌, ◌≤◌};
 ghost use Rattle.base.specs.Result.{map_result};
 ghost use Rattle.base.specs.Result.Result.{ok};
-ghost use Rattle.book_format.specs.Format.{decode as decode-of, read as Read-of};
+ghost use Rattle.book_format.specs.Format.{decode as decode_of, read as read_of};
 ghost use Rattle.book_decoder.specs.Verdict.{header_of};
 ghost use Rattle.book_reader.specs.Judged.{judged};
 ghost use Rattle.book_reader.specs.Entered.{Entered};
@@ -18,8 +18,8 @@ use role_bytes::name;
 
 // The lowest rule that repeats one before it, or the number of rules where none does, for a book that passes causes 1 to 6.
 pub(crate) fn lowest_repeat(book: &[u8], header: Header) -> usize
-    requires { map_result header_of (decode-of book.now) ≡ ok header }
-    ensures { judged header result ≡ map_result header_of (Read-of book.now) }
+    requires { map_result header_of (decode_of book.now) ≡ ok header }
+    ensures { judged header result ≡ map_result header_of (read_of book.now) }
 {
     let rules = header.rules;
     let mut keys: [u64; 256] = [0; 256];

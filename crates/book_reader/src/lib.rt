@@ -3,7 +3,7 @@
 
 ghost use Rattle.std.specs.Prelude.{not, ◌≡◌, ltb};
 ghost use Rattle.base.specs.Result.{map_result};
-ghost use Rattle.book_format.specs.Format.{read as Read-of};
+ghost use Rattle.book_format.specs.Format.{read as read_of};
 ghost use Rattle.refusals.specs.Check.{check};
 ghost use Rattle.book_decoder.specs.Verdict.{header_of, says};
 ghost use Rattle.book_reader.specs.Judged.{judged};
@@ -19,7 +19,7 @@ use refusals::{BookRefusal, Check};
 
 // Reads the whole book: causes 1 to 7. Repeats are looked for relation by relation.
 pub fn read(book: &[u8]) -> Verdict
-    ensures { says result ≡ map_result header_of (Read-of book.now) }
+    ensures { says result ≡ map_result header_of (read_of book.now) }
 {
     let reading = decode(book);
     let Verdict::WellFormed(header) = reading else {
@@ -30,7 +30,7 @@ pub fn read(book: &[u8]) -> Verdict
 
 // The same, where repeats are looked for rule by rule: the search that benchmarks hold beside the other.
 pub fn read_by_rule(book: &[u8]) -> Verdict
-    ensures { says result ≡ map_result header_of (Read-of book.now) }
+    ensures { says result ≡ map_result header_of (read_of book.now) }
 {
     let reading = decode(book);
     let Verdict::WellFormed(header) = reading else {

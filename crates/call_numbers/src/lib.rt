@@ -7,9 +7,9 @@ ghost use Rattle.book_decoder.specs.Verdict.{says};
 ghost use Rattle.refusals.specs.BuildRefusals.{build_cause, build_value};
 ghost use Rattle.refusals.specs.BookQueryRefusals.{book_query_cause, book_query_value};
 ghost use Rattle.book_questions.specs.Admission.{answers};
-ghost use Rattle.query_parts.specs.Answer.{says as answer-says};
-ghost use Rattle.query_deriver.specs.Replies.{says as reply-says};
-ghost use Rattle.table_builder.specs.Builds.{says as outcome-says};
+ghost use Rattle.query_parts.specs.Answer.{says as answer_says};
+ghost use Rattle.query_deriver.specs.Replies.{says as reply_says};
+ghost use Rattle.table_builder.specs.Builds.{says as outcome_says};
 ghost use Rattle.call_numbers.specs.Tells.{Tells, header_counts, built_counts, bit, derivation_numbers};
 
 use book_decoder::Verdict;
@@ -58,7 +58,7 @@ pub fn tell_refusal(refusal: BuildRefusal) -> Told
 
 // What a build tells.
 pub fn tell_outcome(outcome: Outcome) -> Told
-    ensures { Tells (map_result built_counts (outcome-says outcome)) result.cause result.first result.second result.third }
+    ensures { Tells (map_result built_counts (outcome_says outcome)) result.cause result.first result.second result.third }
 {
     match outcome {
         Outcome::Built(counts) => Told {
@@ -73,7 +73,7 @@ pub fn tell_outcome(outcome: Outcome) -> Told
 
 // What an answer of tables tells: 1 for yes, 0 for no.
 pub fn tell_answer(answer: Answer) -> Told
-    ensures { Tells (map_result bit (answer-says answer)) result.cause result.first result.second result.third }
+    ensures { Tells (map_result bit (answer_says answer)) result.cause result.first result.second result.third }
 {
     match answer {
         Answer::Yes => tell_two(1, 0),
@@ -84,7 +84,7 @@ pub fn tell_answer(answer: Answer) -> Told
 
 // What an answer from a book tells: 1 for yes, 0 for no.
 pub fn tell_reply(reply: Reply) -> Told
-    ensures { Tells (map_result bit (reply-says reply)) result.cause result.first result.second result.third }
+    ensures { Tells (map_result bit (reply_says reply)) result.cause result.first result.second result.third }
 {
     match reply {
         Reply::Yes => tell_two(1, 0),

@@ -5,11 +5,11 @@ ghost use Rattle.std.specs.Prelude.{◌≡◌};
 ghost use Rattle.std.specs.Int.Bits.{bit_xor};
 ghost use Rattle.std.specs.Int.Count.{count_trailing_zeros};
 ghost use Rattle.name_sets.specs.Mask.{only};
-ghost use Rattle.name_sets.specs.Mask.{has as Has-of};
+ghost use Rattle.name_sets.specs.Mask.{has as has_of};
 
 // Whether name x is in the set.
 pub fn has(set: u64, x: usize) -> bool
-    ensures { result ≡ Has-of set x }
+    ensures { result ≡ has_of set x }
 {
     if 64 <= x {
         return false;

@@ -7,7 +7,7 @@ ghost use Rattle.name_sets.specs.Mask.{Holds};
 ghost use Rattle.base.specs.Result.{map_result};
 ghost use Rattle.base.specs.Result.Result.{ok};
 ghost use Rattle.book_format.specs.Format.{named};
-ghost use Rattle.book_format.specs.Format.{read as Read-of};
+ghost use Rattle.book_format.specs.Format.{read as read_of};
 ghost use Rattle.book_causes.specs.Ordered.{ordered};
 ghost use Rattle.book_decoder.specs.Verdict.{header_of, says};
 ghost use Rattle.order_checker.specs.Gather.{Added, Ordered, GatheredOrder};
@@ -65,7 +65,7 @@ pub fn order(book: &[u8]) -> Ordering
 // Gathers the order that the rules force on the names: mask x holds the names lower than x, with a mask for each name of the book. Refused at the
 // first rule that would put its right name below itself.
 fn gather(book: &[u8], header: Header, masks: &mut [u64]) -> Verdict
-    requires book_value { map_result header_of (Read-of book.now) ≡ ok header }
+    requires book_value { map_result header_of (read_of book.now) ≡ ok header }
     requires masks_len { length masks.old ≡ header.names }
     requires holds { Holds masks.old no_order }
     ensures result_value { says result ≡ map_result header_of (ordered book.now) }

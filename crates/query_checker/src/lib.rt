@@ -4,7 +4,7 @@
 ghost use Rattle.std.specs.Prelude.{◌≡◌, ltb};
 ghost use Rattle.query_causes.specs.Query.{question, query};
 ghost use Rattle.query_causes.specs.ManyQueries.{names_in, query_for, cause_of};
-ghost use Rattle.refusals.specs.Check.{check as passed-where};
+ghost use Rattle.refusals.specs.Check.{check as passed_where};
 ghost use Rattle.query_checker.specs.QueryVerdict.{says};
 
 mod checks;
@@ -70,7 +70,7 @@ pub fn cause_for(names: u8, role: u8, chain: &[u8]) -> u8
 
 // Cause 12: tables that fit have a name.
 fn known(names: u8) -> Check
-    ensures { result ≡ passed-where (ltb 0 names) }
+    ensures { result ≡ passed_where (ltb 0 names) }
 {
     if names == 0 {
         return Check::Failed;
