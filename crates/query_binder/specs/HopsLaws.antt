@@ -1,7 +1,8 @@
 -- Laws of hops: a walk along a list of the index adds the hops by one label; those by silent transitions, ahead and back are all the hops of a pair.
 use Rattle.std.specs.Prelude.{List, ◌⊎◌, ◌≡◌, refl, ℕ, suc, ◌+◌, ◌*◌, ◌-◌, ◌<◌, ◌≤◌, length, get_or}
-use Rattle.std.proofs.Common.{inl, inr, arith}
+use Rattle.std.proofs.Common.{inl, inr, ap, arith}
 use Rattle.roles.specs.Role.{Chain, inv}
+use Rattle.networks.specs.Network.{Link}
 use Rattle.networks.specs.LaidChain.{laid}
 use Rattle.networks.specs.LaidChainLaws.{laid-member, laid-place}
 use Rattle.tables.specs.Tables.{epsilon}
@@ -141,10 +142,16 @@ module _ (moves : List ℕ) (w : Chain) where
   from-hop (quiet m) y d e = inl (inl (e, rw d m))
   from-hop (ahead l m small n) y d e =
       let (j, h, f) = laid-place w l m in
-      inl (inr (rw (f, d) (h, rw f at e, rw f at small, rw f at n)))
+      let source : l.from ≡ j = ap (λ (x : Link). x.from) f in
+      let role : l.role ≡ get_or w j 0 = ap (λ (x : Link). x.role) f in
+      let target : l.to ≡ suc j = ap (λ (x : Link). x.to) f in
+      inl (inr (rw (source, d) (h, rw target at e, rw role at small, rw role at n)))
   from-hop (back l m small n) y d e =
       let (j, h, f) = laid-place w l m in
-      inr (rw (f, d) (rw (rw f at e) (refl, h, rw f at small, rw f at n)))
+      let source : l.from ≡ j = ap (λ (x : Link). x.from) f in
+      let role : l.role ≡ get_or w j 0 = ap (λ (x : Link). x.role) f in
+      let target : l.to ≡ suc j = ap (λ (x : Link). x.to) f in
+      inr (rw (target, d) (rw (rw source at e) (refl, h, rw role at small, rw role at n)))
 
   pub gains_hops : (x : ℕ) {room stamp : ℕ} {s : List ℕ} {a : ℕ} {t : List ℕ} {b : ℕ} {u : List ℕ} {c : ℕ} {v : List ℕ} {d : ℕ}
       → Gains room stamp (By moves (state_of x) 128 (place_of x)) s a t b → Gains room stamp (Ahead moves w (state_of x) (place_of x)) t b u c

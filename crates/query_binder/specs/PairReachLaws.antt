@@ -1,9 +1,10 @@
 -- Laws of gathered pairs: the first, the hops of one more, and what the whole set says.
 use Rattle.std.specs.Prelude.{true, List, ◌⊎◌, ◌≡◌, refl, ℕ, ◌+◌, ◌*◌, ◌<◌, ◌≤◌, eqb, length, get_or}
-use Rattle.std.proofs.Common.{inl, inr, arith}
+use Rattle.std.proofs.Common.{inl, inr, ap, arith}
 use Rattle.base.specs.Reflects.{Reflects, decides_yes}
 use Rattle.base.specs.Truth.{lt_or_le}
 use Rattle.roles.specs.Role.{Chain}
+use Rattle.networks.specs.Network.{Link}
 use Rattle.networks.specs.LaidChain.{laid}
 use Rattle.networks.specs.LaidChainLaws.{laid-place}
 use Rattle.table_trails.specs.TableTrails.{Hop, Leads}
@@ -66,8 +67,8 @@ module _ {moves : List ℕ} {w : Chain} {room stamp head begin : ℕ} where
       module _ (all : count ≤ n) (few : length w ≤ 16) where
         hop-near : {p i q k : ℕ} → i < 32 → Hop (transitions_in moves) (laid w) p i q k → k < 32
         hop-near l (quiet m) = l
-        hop-near l (ahead k m h n) = let (i, b, e) = laid-place w k m in rw e (omega (arith, b, few))
-        hop-near l (back k m h n) = let (i, b, e) = laid-place w k m in rw e (omega (arith, b, few))
+        hop-near l (ahead k m h n) = let (i, b, e) = laid-place w k m in rw (ap (λ (x : Link). x.to) e) (omega (arith, b, few))
+        hop-near l (back k m h n) = let (i, b, e) = laid-place w k m in rw (ap (λ (x : Link). x.from) e) (omega (arith, b, few))
 
         onward : {p i : ℕ} → i < 32 → Leads (transitions_in moves) (laid w) t j p i → Member s count (pair p i) → Member s count (pair t j)
         onward l stop m = m

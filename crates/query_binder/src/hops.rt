@@ -19,7 +19,7 @@ pub(crate) fn visit(
     stamp: u16,
     count: usize,
 ) -> usize
-    requires ground { Ground room moves.now index.now chain.now }
+    requires grounded { Ground room moves.now index.now chain.now }
     requires pair_bound { pair < 32 * room }
     requires pair_set { PairSet room stamp pairs.old count }
     ensures { Gains room stamp (Hops moves.now chain.now pair) pairs.old count pairs.new result }
@@ -43,7 +43,7 @@ fn ahead(
     stamp: u16,
     count: usize,
 ) -> usize
-    requires ground { Ground room moves.now index.now chain.now }
+    requires grounded { Ground room moves.now index.now chain.now }
     requires from_lt_room { from < room }
     requires pair_set { PairSet room stamp pairs.old count }
     ensures { Gains room stamp (Ahead moves.now chain.now from place) pairs.old count pairs.new result }
@@ -76,7 +76,7 @@ fn back(
     stamp: u16,
     count: usize,
 ) -> usize
-    requires ground { Ground room moves.now index.now chain.now }
+    requires grounded { Ground room moves.now index.now chain.now }
     requires from_lt_room { from < room }
     requires pair_set { PairSet room stamp pairs.old count }
     ensures { Gains room stamp (Back moves.now chain.now from place) pairs.old count pairs.new result }

@@ -23,7 +23,7 @@ pub(crate) fn weave(
     stamp: u16,
     pairs: &mut [u16],
 ) -> bool
-    requires ground { Ground room moves.now index.now chain.now }
+    requires grounded { Ground room moves.now index.now chain.now }
     requires head_bound { (head + 1 < room) × (begin ≤ 16) × (end ≤ 16) }
     requires unused { Unused room stamp pairs.old }
     ensures reflects { Reflects result (Leads (transitions_in moves.now) (laid chain.now) (head + 1) end head begin) }
@@ -55,7 +55,7 @@ pub(crate) fn binds(
     stamp: u16,
     pairs: &mut [u16],
 ) -> bool
-    requires ground { Ground room moves.now index.now chain.now }
+    requires grounded { Ground room moves.now index.now chain.now }
     requires head_bound { head + 1 < room }
     requires unused { Unused room stamp pairs.old }
     ensures reflects { Reflects result (Leads (transitions_in moves.now) (laid chain.now) (head + 1) (end role chain.now) head (begin role chain.now)) }

@@ -45,7 +45,7 @@ among = among_by eqb
 pub among-member : (ps : List ℕ) (q : ℕ) → among ps q ≡ true → Memᴰ q ps
 among-member = among_by-member eqb eqb-true
 
-pub member-among : {ps : List ℕ} {q : ℕ} → Memᴰ q ps → among ps q ≡ true
+pub member-among : {q : ℕ} {ps : List ℕ} → Memᴰ q ps → among ps q ≡ true
 unfolding among_by
 member-among {q} (Memᴰ.head {x} {xs} e) = or_left (eqb q x) (among xs q) (eq-eqb q x e)
 member-among {q} (Memᴰ.tail {x} {xs} m) = or_right (eqb q x) (among xs q) (member-among m)

@@ -31,6 +31,7 @@ long n k f =
 digits_decimal : (fuel n k : ℕ) → k ≤ fuel → IsDigitCount 10 1 n k → last_digits 10 k n ≡ decimal_from fuel n
 unfolding decimal_from
 digits_decimal fuel n zero few f = absurd (let g : 1 ≤ 0 = f.0 in let h : ⊥ = omega arith in h)
+digits_decimal zero n (suc k) few f = absurd (omega arith)
 digits_decimal (suc fuel) n (suc zero) few f = digits_one fuel n f.1
 digits_decimal (suc fuel) n (suc (suc k)) few f =
     let parts = long n k f in

@@ -1,0 +1,15 @@
+-- `seek` meets its contract. The invariant: the cursor is at rule `passed`.
+use mathlib.Core.Path.{ap, ◌∙◌, ◌≡◌}
+use Prim.Native.Nat.{◌≤◌, ◌-◌}
+use native.Mathlib.Omega.{arith}
+use borrow.Author.Rules.{rules}
+use Rattle.book_cursor.specs.CursorLaws.{Yields, yields}
+use Rattle.book_format.specs.DecodeLaws.{has_rule-whole}
+use Rattle.book_format.specs.Place.{rule_place}
+use Rattle.book_left_sides.proofs.seek.Given as goal
+
+abbrev pub invariant-loop-passed : goal.invariant-loop-passed
+invariant-loop-passed l = (l.passed ≤ l.rule) × (l.cursor.at ≡ rule_place l.book l.passed)
+
+abbrev pub decreases-loop-passed : goal.decreases-loop-passed
+decreases-loop-passed l = l.rule - l.passed

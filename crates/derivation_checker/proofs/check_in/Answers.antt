@@ -1,0 +1,18 @@
+-- `check_in` meets its contract: the refusal of the question, or what its steps give by the table of the book's rules.
+use mathlib.Core.Path.{ap}
+use borrow.Author.Rules.{rules}
+use Rattle.book_questions.specs.Admission.{says}
+use Rattle.derivation_checker.specs.CheckedLaws.{checked_refused, rules-tabled, checked-tabled}
+use Rattle.derivation_checker.proofs.check_in.Goals as goal
+
+pub follow-requires : goal.follow-requires
+follow-requires c =
+    rules-tabled c.admit-admission.ensures (ap says c.in-Admitted.is) c.requires
+
+pub returns-in-Refused : goal.returns-in-Refused
+returns-in-Refused c =
+    checked_refused c.admit-admission.ensures (ap says c.in-Refused.is) _
+
+pub returns-in-Admitted : goal.returns-in-Admitted
+returns-in-Admitted c =
+    checked-tabled c.admit-admission.ensures (ap says c.in-Admitted.is) c.requires _ c.follow.ensures

@@ -1,0 +1,16 @@
+-- `put_network` meets its contract. The invariant: the links of the first names are put.
+use mathlib.Core.Path.{◌≡◌, subst}
+use Prim.Native.Nat.{ℕ, ◌-◌, ◌*◌, ◌≤◌}
+use native.Mathlib.Nat.{zero-add}
+use native.Mathlib.Omega.{arith}
+use borrow.Author.Rules.{rules}
+use Rattle.network_writer.specs.WritesNetwork.{joined}
+use Rattle.network_writer.specs.RowBytes.{name_bytes, Puts}
+use Rattle.network_writer.specs.RowBytesLaws.{length-name, puts-size, puts-start, puts-next, puts-room}
+use Rattle.network_writer.proofs.bytes.put_network.Given as goal
+
+abbrev pub invariant-loop-x : goal.invariant-loop-x
+invariant-loop-x l = (l.x ≤ l.names) × Puts l.initial.network 0 (joined l.x (λ y. name_bytes l.rows (64 * y) l.places)) l.network l.at
+
+abbrev pub decreases-loop-x : goal.decreases-loop-x
+decreases-loop-x l = l.names - l.x

@@ -1,0 +1,16 @@
+-- `put_rows` meets its contract. The invariant: the rows of the first places are put.
+use mathlib.Core.Path.{◌≡◌, subst}
+use Prim.Native.Nat.{ℕ, ◌+◌, ◌-◌, ◌≤◌}
+use native.Mathlib.Omega.{arith}
+use borrow.Author.Rules.{rules}
+use lib.ListN.{get_or}
+use Rattle.network_writer.specs.WritesNetwork.{joined}
+use Rattle.network_writer.specs.RowBytes.{row_bytes, Puts}
+use Rattle.network_writer.specs.RowBytesLaws.{length-row, puts-size, puts-start, puts-next, puts-room}
+use Rattle.network_writer.proofs.bytes.put_rows.Given as goal
+
+abbrev pub invariant-loop-from : goal.invariant-loop-from
+invariant-loop-from l =     (l.from ≤ l.places) × Puts l.initial.network l.start (joined l.from (λ a. row_bytes (get_or l.rows (l.front + a) 0) l.places)) l.network l.at
+
+abbrev pub decreases-loop-from : goal.decreases-loop-from
+decreases-loop-from l = l.places - l.from
