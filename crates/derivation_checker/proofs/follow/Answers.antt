@@ -32,13 +32,13 @@ apply-size-requires c = c.loop-k.invariant.1.ready
 pub returns-then-size-eq0 : goal.returns-then-size-eq0
 returns-then-size-eq0 c =
     let applied = c.apply-size.ensures in
-    following_stop c.loop-k.invariant.1 (omega arith) (c.step_of_lem.ensures.whole (omega arith)) applied c.if-size-eq0.true _
+    following_stop c.loop-k.invariant.1 (omega arith) (c.step_of.ensures.whole (omega arith)) applied c.if-size-eq0.true _
 
 pub loop-k-preserved : goal.loop-k-preserved
 loop-k-preserved c =
     let inv = c.loop-k.invariant in
     let applied = c.apply-size.ensures in
-    (inv.0, following_next inv.1 (omega arith) (c.step_of_lem.ensures.whole (omega arith)) applied c.if-size-eq0.false)
+    (inv.0, following_next inv.1 (omega arith) (c.step_of.ensures.whole (omega arith)) applied c.if-size-eq0.false)
 
 pub slice_bounds-same-end : goal.slice_bounds-same-end
 slice_bounds-same-end c =

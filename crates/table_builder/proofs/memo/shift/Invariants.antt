@@ -1,0 +1,14 @@
+-- `shift` meets its contract. The invariant: the transitions before j are copied.
+use mathlib.Core.Path.{refl}
+use Prim.Native.Nat.{◌-◌}
+use native.Mathlib.Omega.{arith}
+use borrow.Author.Rules.{rules}
+use lib.ListN.{length-set}
+use Rattle.table_builder.specs.ShiftLaws.{Shifting, shifting_start, shifting_near, shifting_next, shifting_end}
+use Rattle.table_builder.proofs.memo.shift.Given as goal
+
+abbrev pub invariant-loop-j : goal.invariant-loop-j
+invariant-loop-j l = Shifting l.start l.size l.count l.by l.initial.moves l.moves l.j
+
+abbrev pub decreases-loop-j : goal.decreases-loop-j
+decreases-loop-j l = l.size - l.j
