@@ -3,7 +3,7 @@
 use byte_parts::byte;
 
 // A derivation of up to 63 steps, damaged.
-#[derive(Drop)]
+#[derive(Clone, Copy)]
 pub(crate) struct Damage {
     pub(crate) bytes: [u8; 256],
     pub(crate) size: usize,

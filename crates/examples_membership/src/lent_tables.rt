@@ -2,7 +2,7 @@
 use table_builder::Outcome;
 
 // Heads and moves, and what building a book in them gave.
-#[derive(Drop)]
+#[derive(Clone, Copy)]
 pub(crate) struct Tables {
     pub(crate) heads: [u16; 15363],
     pub(crate) moves: [u16; 15363],

@@ -4,7 +4,7 @@ use crate::chain::splice;
 use crate::draw::{Drawn, draw, draw_links, draw_small};
 
 // A book, its size, and a bit for each form that its rules have; bit 6 for an inverse right role.
-#[derive(Drop)]
+#[derive(Clone, Copy)]
 pub(crate) struct Made {
     pub(crate) seed: u64,
     pub(crate) book: [u8; 96],

@@ -6,7 +6,7 @@ use crate::written::{BLANK, Told, kept, told_by_checker, told_by_writer, write, 
 use byte_parts::{byte, part};
 
 // A book, a role and a chain, and the place after them.
-#[derive(Drop)]
+#[derive(Clone, Copy)]
 struct Asked {
     book: [u8; 1025],
     book_size: usize,

@@ -28,7 +28,7 @@ pub(crate) fn read_number(s: &[u8], at: usize) -> Number {
 }
 
 // A list of numbers, as table numbers and as bytes, and the place after it.
-#[derive(Drop)]
+#[derive(Clone, Copy)]
 pub(crate) struct List {
     pub(crate) numbers: [u16; 15363],
     pub(crate) bytes: [u8; 1025],

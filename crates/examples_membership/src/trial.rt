@@ -9,7 +9,7 @@ use crate::script_numbers::numbers_of;
 use byte_parts::{byte, part};
 
 // How far it is: the next seed and the counts.
-#[derive(Drop)]
+#[derive(Clone, Copy)]
 pub(crate) struct Trial {
     pub(crate) seed: u64,
     pub(crate) counts: [u64; 64],

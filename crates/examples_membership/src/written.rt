@@ -16,7 +16,7 @@ pub(crate) struct Told {
 }
 
 // A lent buffer, and what the writer told.
-#[derive(Drop)]
+#[derive(Clone, Copy)]
 pub(crate) struct Written {
     pub(crate) steps: [u8; 16384],
     pub(crate) told: Told,

@@ -4,7 +4,7 @@ use libc::STDOUT_FILENO;
 use transcript_writer::Tables;
 
 // What is left of the input, and the number of the next question.
-#[derive(Drop)]
+#[derive(Clone, Copy)]
 struct Left {
     bytes: [u8; 64],
     size: usize,

@@ -1,12 +1,11 @@
 -- `decode` meets its contract: each check's answer settles one test of the definition.
-use mathlib.Core.List.{[]}
 use mathlib.Core.Path.{sym, ap, ◌∙◌}
 use borrow.Author.Rules.{rules}
 use lib.ListN.{drop}
 use Rattle.book_decoder.specs.Verdict.{header_of}
 use Rattle.refusals.specs.Check.{check-passed, check_failed}
 use Rattle.book_format.specs.Format.{rules_from, counts_fit}
-use Rattle.book_format.specs.DecodeLaws.{decode-size, decode-mark, decode_version, decode-counts, decode-all, counted}
+use Rattle.book_format.specs.DecodeLaws.{decode-size, decode-mark, decode_version, decode-counts, decode-all}
 use Rattle.base.specs.Result.{map_result}
 use Rattle.book_header.specs.declared.Header.{Header}
 use Rattle.book_decoder.proofs.decode.Goals as goal

@@ -1,5 +1,4 @@
 use mathlib.Core.Path.{refl, ◌≡◌, sym, ap, ◌∙◌}
-use Prim.Native.Nat.{◌≤◌, ◌-◌}
 use native.Mathlib.Omega.{arith}
 use borrow.Author.Rules.{rules}
 use borrow.Author.Tests.{leb-true, leb-false}
@@ -9,7 +8,7 @@ use Rattle.refusals.specs.Check.{check-passed, check_failed}
 use Rattle.book_format.specs.FormatLaws.{length-first_rules}
 use Rattle.book_format.specs.Place.{rule_place}
 use Rattle.base.specs.Result.{map_result}
-use Rattle.book_format.specs.RuleLoopLaws.{Running, running-start, running-cut, running_undeclared, running-next, running-after, running-end}
+use Rattle.book_format.specs.RuleLoopLaws.{running-start, running-cut, running_undeclared, running-next, running-after, running-end}
 use Rattle.book_decoder.proofs.decode_rules.Goals as goal
 use Rattle.book_decoder.proofs.decode_rules.Goals.{After-step, In-Rule}
 

@@ -1,9 +1,5 @@
-use mathlib.Core.Path.{◌≡◌, ap, sym}
-use Prim.Native.Nat.{ℕ, ◌≤◌, ◌<◌, ◌-◌}
+use mathlib.Core.Path.{ap, sym}
 use native.Mathlib.Omega.{arith}
-use borrow.Author.Count.{below_more}
-use borrow.Author.Rules.{rules}
-use lib.ListN.{length, get_or}
 use Rattle.refusals.specs.Check.{check}
 use Rattle.roles.specs.ChainParts.{prefix_same, prefix_differs, prefix_short}
 use Rattle.book_header.proofs.begins_with.Goals as goal

@@ -1,12 +1,7 @@
 -- `begins_with` meets its contract. The invariant: the bytes passed are the mark's.
-use mathlib.Core.Path.{◌≡◌, ap, sym}
+use mathlib.Core.Path.{◌≡◌}
 use Prim.Native.Nat.{ℕ, ◌≤◌, ◌<◌, ◌-◌}
-use native.Mathlib.Omega.{arith}
-use borrow.Author.Count.{below_more}
-use borrow.Author.Rules.{rules}
 use lib.ListN.{length, get_or}
-use Rattle.refusals.specs.Check.{check}
-use Rattle.roles.specs.ChainParts.{prefix_same, prefix_differs, prefix_short}
 use Rattle.book_header.proofs.begins_with.Given as goal
 
 abbrev pub invariant-loop-i : goal.invariant-loop-i

@@ -1,7 +1,5 @@
 use mathlib.Core.Path.{ap, ◌∙◌, ◌≡◌}
-use Prim.Native.Nat.{◌≤◌, ◌-◌}
 use native.Mathlib.Omega.{arith}
-use borrow.Author.Rules.{rules}
 use Rattle.book_cursor.specs.CursorLaws.{Yields, yields}
 use Rattle.book_format.specs.DecodeLaws.{has_rule-whole}
 use Rattle.book_format.specs.Place.{rule_place}

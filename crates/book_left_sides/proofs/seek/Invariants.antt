@@ -1,10 +1,6 @@
 -- `seek` meets its contract. The invariant: the cursor is at rule `passed`.
-use mathlib.Core.Path.{ap, ◌∙◌, ◌≡◌}
+use mathlib.Core.Path.{◌≡◌}
 use Prim.Native.Nat.{◌≤◌, ◌-◌}
-use native.Mathlib.Omega.{arith}
-use borrow.Author.Rules.{rules}
-use Rattle.book_cursor.specs.CursorLaws.{Yields, yields}
-use Rattle.book_format.specs.DecodeLaws.{has_rule-whole}
 use Rattle.book_format.specs.Place.{rule_place}
 use Rattle.book_left_sides.proofs.seek.Given as goal
 

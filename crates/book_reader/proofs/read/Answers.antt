@@ -1,6 +1,5 @@
 -- `read` meets its contract: `decode` settles causes 1 to 6, and the lowest repeat cause 7.
 use mathlib.Core.Path.{sym, ap, ◌∙◌}
-use borrow.Author.Rules.{rules}
 use Rattle.book_decoder.specs.Verdict.{says}
 use Rattle.book_decoder.specs.VerdictLaws.{read-refused}
 use Rattle.book_reader.proofs.read.Goals as goal

@@ -1,10 +1,6 @@
-use mathlib.Core.Path.{◌≡◌}
-use Prim.Native.Nat.{◌-◌, ◌≤◌}
 use native.Mathlib.Omega.{arith}
-use borrow.Author.Rules.{rules}
-use lib.ListN.{length, take, length-set}
-use lib.Seq.{sets}
-use Rattle.book_writer.specs.BookStoreLaws.{copied_more, copied_all}
+use lib.ListN.{length-set}
+use Rattle.book_writer.specs.BookStoreLaws.{copied_more}
 use Rattle.book_writer.proofs.copy.Goals as goal
 
 pub loop-i-preserved : goal.loop-i-preserved

@@ -1,5 +1,4 @@
 -- `put_header` meets its contract: the copied array is the eight bytes in front.
-use borrow.Author.Rules.{rules}
 use Rattle.book_format.specs.Encode.{header}
 use Rattle.book_writer.specs.BookStoreLaws.{header-short, header-stored}
 use Rattle.book_writer.proofs.put_header.Goals as goal

@@ -1,9 +1,5 @@
 -- `put_rule` meets its contract: nothing where the rule is too long or has no room, else its bytes in a row.
-use mathlib.Core.Path.{ap, ◌∙◌}
 use native.Mathlib.Omega.{arith}
-use borrow.Author.Rules.{rules}
-use lib.ListN.{length, length-set}
-use lib.Seq.{length-sets}
 use Rattle.book_writer.specs.BookStoreLaws.{put_long, put_full, put-stored}
 use Rattle.book_writer.proofs.put_rule.Goals as goal
 

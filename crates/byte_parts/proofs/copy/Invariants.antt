@@ -1,11 +1,8 @@
 -- LENGTHS 10 given, 9 needs
 use mathlib.Core.List.{◌++◌}
-use mathlib.Core.Path.{◌≡◌, ◌∙◌}
-use Prim.Native.Nat.{◌<◌, ◌≤◌, ◌-◌}
-use native.Mathlib.Omega.{arith}
-use borrow.Author.Rules.{rules}
-use lib.ListN.{length, take, drop}
-use Rattle.byte_parts.specs.BytesLaws.{copy_length, copy_next, copy_end}
+use mathlib.Core.Path.{◌≡◌}
+use Prim.Native.Nat.{◌≤◌, ◌-◌}
+use lib.ListN.{take, drop}
 use Rattle.byte_parts.proofs.copy.Given as goal
 
 -- `copy` meets its contract. The invariant: the first i bytes are copied.

@@ -1,9 +1,5 @@
-use mathlib.Core.Path.{◌≡◌, ◌∙◌}
-use Prim.Native.Nat.{◌+◌, ◌-◌}
+use mathlib.Core.Path.{◌∙◌}
 use native.Mathlib.Omega.{arith}
-use borrow.Author.Rules.{rules}
-use lib.ListN.{length, drop}
-use Rattle.byte_parts.specs.Bytes.{ahead}
 use Rattle.byte_parts.specs.BytesLaws.{ahead-found, ahead-next, ahead-end}
 use Rattle.byte_parts.proofs.find.Goals as goal
 

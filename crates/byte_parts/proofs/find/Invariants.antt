@@ -1,10 +1,7 @@
-use mathlib.Core.Path.{◌≡◌, ◌∙◌}
+use mathlib.Core.Path.{◌≡◌}
 use Prim.Native.Nat.{◌+◌, ◌-◌}
-use native.Mathlib.Omega.{arith}
-use borrow.Author.Rules.{rules}
 use lib.ListN.{length, drop}
 use Rattle.byte_parts.specs.Bytes.{ahead}
-use Rattle.byte_parts.specs.BytesLaws.{ahead-found, ahead-next, ahead-end}
 use Rattle.byte_parts.proofs.find.Given as goal
 
 -- `find` meets its contract. The invariant: the wanted place is as far from i as from the start.

@@ -1,7 +1,6 @@
 -- `check` meets its contract: the table has room for the rules that the header declares, or for 256.
 use Prim.Native.Nat.{ℕ, ◌≤◌}
 use native.Mathlib.Omega.{arith}
-use borrow.Author.Rules.{rules}
 use lib.ListN.{length-replicate}
 use Rattle.words.specs.Word.{word}
 use Rattle.derivation_checker.specs.CheckedLaws.{roomy_few, roomy_all}

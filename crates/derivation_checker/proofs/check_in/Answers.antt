@@ -1,6 +1,5 @@
 -- `check_in` meets its contract: the refusal of the question, or what its steps give by the table of the book's rules.
 use mathlib.Core.Path.{ap}
-use borrow.Author.Rules.{rules}
 use Rattle.book_questions.specs.Admission.{says}
 use Rattle.derivation_checker.specs.CheckedLaws.{checked_refused, rules-tabled, checked-tabled}
 use Rattle.derivation_checker.proofs.check_in.Goals as goal

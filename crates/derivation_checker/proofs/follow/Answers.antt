@@ -1,12 +1,10 @@
-use mathlib.Core.Path.{◌≡◌, refl, sym}
-use Prim.Native.Nat.{◌-◌, ◌/◌}
+use mathlib.Core.Path.{refl, sym}
 use native.Mathlib.Omega.{arith}
 use borrow.Author.Rules.{rules}
-use lib.ListN.{length}
 use lib.Seq.{length-take-le}
 use Rattle.book_questions.specs.RuleTable.{rule_in}
 use Rattle.derivation_steps.specs.RunningLaws.{checked_uneven}
-use Rattle.derivation_checker.specs.Following.{Following, following_start, following_stop, following_next, following_end}
+use Rattle.derivation_checker.specs.Following.{following_start, following_stop, following_next, following_end}
 use Rattle.derivation_checker.proofs.follow.Goals as goal
 
 pub returns-then-steps-ne0 : goal.returns-then-steps-ne0

@@ -1,9 +1,7 @@
-use mathlib.Core.Path.{◌≡◌, sym, ap}
-use Prim.Native.Nat.{ℕ, ◌-◌, ◌<◌, ◌≤◌}
+use mathlib.Core.Path.{sym, ap}
 use native.Mathlib.Omega.{arith}
 use borrow.Author.Count.{below_more}
-use borrow.Author.Rules.{rules}
-use lib.ListN.{length, get_or}
+use lib.ListN.{length}
 use Rattle.base.specs.Result.Result.{ok}
 use Rattle.roles.specs.ChainParts.{same-links, link_differs}
 use Rattle.roles.specs.RoleLaws.{same_chain_differ}

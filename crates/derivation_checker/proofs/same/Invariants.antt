@@ -1,13 +1,7 @@
 -- `same` meets its contract. The invariant: the links before link i are the same.
-use mathlib.Core.Path.{◌≡◌, sym, ap}
+use mathlib.Core.Path.{◌≡◌}
 use Prim.Native.Nat.{ℕ, ◌-◌, ◌<◌, ◌≤◌}
-use native.Mathlib.Omega.{arith}
-use borrow.Author.Count.{below_more}
-use borrow.Author.Rules.{rules}
 use lib.ListN.{length, get_or}
-use Rattle.base.specs.Result.Result.{ok}
-use Rattle.roles.specs.ChainParts.{same-links, link_differs}
-use Rattle.roles.specs.RoleLaws.{same_chain_differ}
 use Rattle.derivation_checker.proofs.same.Given as goal
 
 abbrev pub invariant-loop-i : goal.invariant-loop-i

@@ -1,8 +1,6 @@
 -- `put_step` meets its contract.
 use native.Mathlib.Omega.{arith}
-use borrow.Author.Rules.{rules}
-use lib.ListN.{length-set}
-use Rattle.derivation_steps.specs.StepBytesLaws.{puts_none, puts_whole}
+use Rattle.derivation_steps.specs.StepBytesLaws.{puts_whole}
 use Rattle.derivation_steps.proofs.put_step.Goals as goal
 
 pub returns : goal.returns

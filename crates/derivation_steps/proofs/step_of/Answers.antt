@@ -1,10 +1,8 @@
 -- `step_of` meets its contract: each byte fits, and so does the sum of two.
 use mathlib.Core.Path.{refl}
-use Prim.Native.Nat.{◌+◌, ◌*◌}
 use native.Mathlib.Omega.{arith}
-use borrow.Author.Rules.{rules}
 use Rattle.derivation_steps.specs.WrittenSteps.{step_at}
-use Rattle.derivation_steps.specs.StepBytesLaws.{reads_none, reads_whole}
+use Rattle.derivation_steps.specs.StepBytesLaws.{reads_whole}
 use Rattle.derivation_steps.proofs.step_of.Goals as goal
 
 pub returns : goal.returns

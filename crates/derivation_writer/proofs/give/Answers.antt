@@ -1,7 +1,5 @@
 -- `give` meets its contract.
 use native.Mathlib.Omega.{arith}
-use borrow.Author.Rules.{rules}
-use Rattle.base.specs.Reflects.{test_failed, test_passed}
 use Rattle.derivation_writer.specs.WritesLaws.{searched_ready, gives_buffer, gives_none, gives-steps}
 use mathlib.Core.Path.{sym}
 use mathlib.Core.Path.{◌∙◌}

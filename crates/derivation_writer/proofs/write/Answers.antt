@@ -1,8 +1,6 @@
 -- `write` meets its contract: the small arrays have room for a book of few names and rules, and the large ones for every book.
 use Prim.Native.Nat.{ℕ}
 use native.Mathlib.Omega.{arith}
-use borrow.Author.Rules.{rules}
-use borrow.Author.Tests.{leb-true}
 use lib.ListN.{length-replicate}
 use Rattle.derivation_writer.specs.WritesLaws.{roomy_few, roomy_large}
 use Rattle.derivation_writer.proofs.write.Goals as goal

@@ -1,5 +1,4 @@
 -- `write_in` meets its contract: the refusal of the question, or what is given by the search.
-use borrow.Author.Rules.{rules}
 use Rattle.derivation_writer.specs.WritesLaws.{writes-refused, some-searched, writes-given}
 use Rattle.derivation_writer.proofs.write_in.Goals as goal
 

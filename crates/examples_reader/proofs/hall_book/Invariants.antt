@@ -1,9 +1,6 @@
 -- `hall_book` is safe and ends.
 -- LENGTHS 12 given, 10 needs
-use mathlib.Core.Path.{◌≡◌}
 use Prim.Native.Nat.{◌-◌}
-use borrow.Author.Rules.{rules}
-use lib.ListN.{length}
 use Rattle.examples_reader.proofs.hall_book.Given as goal
 
 abbrev pub decreases-loop-rule : goal.decreases-loop-rule

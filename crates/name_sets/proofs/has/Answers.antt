@@ -1,6 +1,5 @@
 use mathlib.Core.Path.{sym}
 use native.Mathlib.Omega.{arith}
-use borrow.Author.Rules.{rules}
 use Rattle.name_sets.specs.MemberLaws.{has_shift, has-past}
 use Rattle.name_sets.proofs.has.Goals as goal
 

@@ -1,5 +1,4 @@
 use native.Mathlib.Omega.{arith}
-use borrow.Author.Rules.{rules}
 use Rattle.name_sets.specs.MemberLaws.{only_shift, only-past}
 use Rattle.name_sets.proofs.single.Goals as goal
 

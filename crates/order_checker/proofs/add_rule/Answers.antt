@@ -1,12 +1,10 @@
 -- `add_rule` meets its contract: by the shape there are no inner roles, or the mask of what they reach is tested and absorbed, unless all of it is known.
-use mathlib.Core.Logic.{⊎_elim}
 use mathlib.Core.Path.{sym, ◌∙◌}
 use Prim.Native.Nat.{◌<◌, ◌+◌, ◌-◌}
 use native.Mathlib.Omega.{arith}
 use lib.ListN.{length}
 use Rattle.book_format.specs.ReadLaws.{named-name, named-part}
 use Rattle.order_checker.specs.AddLaws.{Reached, no_inner, row_within, row-reached, added_none, added_clash, added-known, added_extends}
-use borrow.Author.Rules.{rules}
 use Rattle.order_checker.proofs.add_rule.Goals as goal
 use Rattle.order_checker.proofs.add_rule.Goals.{After-name-over}
 

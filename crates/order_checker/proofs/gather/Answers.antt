@@ -1,10 +1,7 @@
-use mathlib.Core.Path.{◌≡◌, ◌∙◌}
-use Prim.Native.Nat.{◌≤◌, ◌-◌}
+use mathlib.Core.Path.{◌∙◌}
 use native.Mathlib.Omega.{arith}
-use borrow.Author.Rules.{rules}
-use lib.ListN.{length}
 use Rattle.book_format.specs.Place.{rule_place}
-use Rattle.order_checker.specs.GatherLaws.{Gathers, gathers_start, formed, few_names, whole-rule, named_rule, gathers_next, gathers_clash, gathers_end}
+use Rattle.order_checker.specs.GatherLaws.{gathers_start, formed, few_names, whole-rule, named_rule, gathers_next, gathers_clash, gathers_end}
 use Rattle.book_cursor.specs.CursorLaws.{Hands, Yields, yields}
 use Rattle.order_checker.proofs.gather.Goals as goal
 use Rattle.order_checker.proofs.gather.Goals.{After-step, In-Rule}

@@ -1,12 +1,10 @@
 -- `gather` meets its contract. The invariant: the cursor is at rule `number`, and the masks hold the order that the rules before it force.
-use mathlib.Core.Path.{◌≡◌, ◌∙◌}
+use mathlib.Core.Path.{◌≡◌}
 use Prim.Native.Nat.{◌≤◌, ◌-◌}
-use native.Mathlib.Omega.{arith}
 use borrow.Author.Rules.{rules}
 use lib.ListN.{length}
 use Rattle.book_format.specs.Place.{rule_place}
-use Rattle.order_checker.specs.GatherLaws.{Gathers, gathers_start, formed, few_names, whole-rule, named_rule, gathers_next, gathers_clash, gathers_end}
-use Rattle.book_cursor.specs.CursorLaws.{Hands, Yields, yields}
+use Rattle.order_checker.specs.GatherLaws.{Gathers}
 use Rattle.order_checker.proofs.gather.Given as goal
 
 abbrev pub invariant-loop-number : goal.invariant-loop-number

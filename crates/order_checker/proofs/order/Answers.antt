@@ -1,7 +1,6 @@
 -- `order` meets its contract: `read` settles causes 1 to 7, `gather` cause 8, and the masks that it leaves give the levels.
 use mathlib.Core.Path.{◌≡◌, sym, ap, ◌∙◌}
 use Prim.Native.Nat.{ℕ, ◌≤◌}
-use borrow.Author.Rules.{rules}
 use lib.ListN.{length, take, replicate}
 use lib.Seq.{length-take-le, take_at, length_front}
 use Rattle.book_causes.specs.OrderedRun.{ordered-refused}

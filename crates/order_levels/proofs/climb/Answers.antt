@@ -1,8 +1,5 @@
-use Prim.Native.Nat.{◌<◌, ◌≤◌, ◌-◌}
+use Prim.Native.Nat.{◌<◌}
 use native.Mathlib.Omega.{arith}
-use borrow.Author.Rules.{rules}
-use Rattle.name_sets.specs.Mask.{has}
-use Rattle.order_levels.specs.Climbing.{Ready, Climbed}
 use Rattle.order_levels.specs.ClimbedLaws.{climbed-none}
 use Rattle.order_levels.specs.WalkLaws.{ready-none, ready-next, climbed-all}
 use Rattle.order_levels.proofs.climb.Goals as goal

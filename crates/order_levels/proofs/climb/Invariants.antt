@@ -1,11 +1,7 @@
 -- `climb` meets its contract. The invariant: the names of rank below c are in their tiers.
-use Prim.Native.Nat.{◌<◌, ◌≤◌, ◌-◌}
-use native.Mathlib.Omega.{arith}
-use borrow.Author.Rules.{rules}
+use Prim.Native.Nat.{◌≤◌, ◌-◌}
 use Rattle.name_sets.specs.Mask.{has}
 use Rattle.order_levels.specs.Climbing.{Ready, Climbed}
-use Rattle.order_levels.specs.ClimbedLaws.{climbed-none}
-use Rattle.order_levels.specs.WalkLaws.{ready-none, ready-next, climbed-all}
 use Rattle.order_levels.proofs.climb.Given as goal
 
 abbrev pub invariant-loop-c : goal.invariant-loop-c

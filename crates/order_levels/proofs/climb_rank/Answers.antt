@@ -1,16 +1,15 @@
 use mathlib.Core.Bool.{true}
 use mathlib.Core.Path.{◌≡◌}
-use Prim.Native.Nat.{◌<◌, ◌≤◌, ◌^◌}
+use Prim.Native.Nat.{◌<◌, ◌≤◌}
 use native.Mathlib.Omega.{arith}
-use borrow.Author.Rules.{rules}
 use lib.Bits.{xor_lt}
 use lib.Count.{count_trailing_zeros}
 use lib.ListN.{length, get_or}
 use lib.Pow.{pow-lt}
-use Rattle.name_sets.specs.Mask.{has, count}
+use Rattle.name_sets.specs.Mask.{has}
 use Rattle.name_sets.specs.MemberLaws.{lowest, only-named, without_fewer}
 use Rattle.order_levels.specs.Climbing.{ClimbedRank}
-use Rattle.order_levels.specs.WalkLaws.{Walking, rank-ready, walking_start, walking_next, walking_end, named, level-few}
+use Rattle.order_levels.specs.WalkLaws.{rank-ready, walking_next, walking_end, named, level-few}
 use Rattle.order_levels.proofs.climb_rank.Goals as goal
 use Rattle.order_levels.proofs.climb_rank.Goals.{After-highest-below, In-loop-rest}
 

@@ -1,8 +1,7 @@
 use Prim.Native.Nat.{◌-◌}
 use native.Mathlib.Omega.{arith}
-use borrow.Author.Rules.{rules}
 use lib.Bits.{and_lt}
-use Rattle.order_levels.specs.TierLaws.{Searched, searched-start, searched-next, searched-none, searched-met}
+use Rattle.order_levels.specs.TierLaws.{searched-next, searched-met}
 use Rattle.order_levels.proofs.highest.Goals as goal
 
 pub returns-then-set-tiers-ne0 : goal.returns-then-set-tiers-ne0

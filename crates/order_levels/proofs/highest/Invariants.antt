@@ -1,9 +1,5 @@
 -- `highest` meets its contract. The invariant: no tier from k on has a name of the set.
-use Prim.Native.Nat.{◌-◌}
-use native.Mathlib.Omega.{arith}
-use borrow.Author.Rules.{rules}
-use lib.Bits.{and_lt}
-use Rattle.order_levels.specs.TierLaws.{Searched, searched-start, searched-next, searched-none, searched-met}
+use Rattle.order_levels.specs.TierLaws.{Searched}
 use Rattle.order_levels.proofs.highest.Given as goal
 
 abbrev pub invariant-loop-k : goal.invariant-loop-k

@@ -1,9 +1,4 @@
 -- `levels_of` meets its contract: the names are sorted by rank and then put in their tiers.
-use mathlib.Core.Path.{refl, sym}
-use Prim.Native.Nat.{◌≤◌}
-use borrow.Author.Rules.{rules}
-use lib.ListN.{length, take}
-use lib.Seq.{length-take-le}
 use Rattle.order_levels.specs.WalkLaws.{front}
 use Rattle.order_levels.proofs.levels_of.Goals as goal
 

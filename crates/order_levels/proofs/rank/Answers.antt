@@ -1,12 +1,9 @@
-use mathlib.Core.Path.{◌≡◌}
-use Prim.Native.Nat.{◌≤◌, ◌<◌, ◌-◌}
+use Prim.Native.Nat.{◌≤◌, ◌<◌}
 use native.Mathlib.Omega.{arith}
-use borrow.Author.Rules.{rules}
 use lib.Count.{ones, ones-le}
-use lib.ListN.{length, get_or}
+use lib.ListN.{get_or}
 use Rattle.name_sets.specs.MaskLaws.{ones_count}
 use Rattle.name_sets.specs.MemberLaws.{only-named}
-use Rattle.order_levels.specs.Climbing.{Ranked}
 use Rattle.order_levels.specs.RankedLaws.{ranked-none, ranked-next}
 use Rattle.order_levels.proofs.rank.Goals as goal
 use Rattle.order_levels.proofs.rank.Goals.{After-shared_slice_known-in-loop-x-1}

@@ -1,8 +1,5 @@
 -- `accepts` meets its contract: in a small array, small tables are those whose states are all below 64.
 use native.Mathlib.Omega.{arith}
-use borrow.Author.Rules.{rules}
-use borrow.Author.Tests.{leb-true}
-use lib.ListN.{length}
 use Rattle.query_simulation.specs.TransitionIndexLaws.{prepared-zeros}
 use Rattle.query_answerer.proofs.accepts.Goals as goal
 

@@ -1,6 +1,5 @@
 -- `accepts_many` meets its contract: a fresh array is empty sets and an empty index, and `run` decides the rest.
 use native.Mathlib.Omega.{arith}
-use borrow.Author.Rules.{rules}
 use Rattle.query_simulation.specs.TransitionIndexLaws.{prepared-zeros}
 use Rattle.query_answerer.proofs.accepts_many.Goals as goal
 

@@ -1,6 +1,5 @@
 -- `ask` meets its contract: `check` settles causes 12 to 14, and a question that passes them is decided by `accepts`.
 use mathlib.Core.Path.{sym, ap, ◌∙◌}
-use borrow.Author.Rules.{rules}
 use Rattle.base.specs.Decision.Decision.{refuses}
 use Rattle.query_checker.specs.QueryVerdict.{says as found}
 use Rattle.query_simulation.specs.QueryLaws.{askable, answered}

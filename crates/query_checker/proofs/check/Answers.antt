@@ -1,7 +1,6 @@
 -- `check` meets its contract: the tables are checked first, then the question for as many names as they have heads.
 use mathlib.Core.Path.{sym, ◌∙◌}
 use native.Mathlib.Omega.{arith}
-use borrow.Author.Rules.{rules}
 use Rattle.query_simulation.specs.QueryLaws.{query_tables, query-question}
 use Rattle.query_simulation.specs.TablesLaws.{tables}
 use Rattle.refusals.specs.Check.{check-passed, check_failed}

@@ -1,10 +1,7 @@
 -- `names_in` meets its contract: tables that fit have at most 64 names.
-use mathlib.Core.Path.{sym}
 use native.Mathlib.Omega.{arith}
-use borrow.Author.Rules.{rules}
-use Rattle.query_simulation.specs.QueryLaws.{names-none, names-some}
 use Rattle.query_simulation.specs.TablesLaws.{tables}
-use Rattle.refusals.specs.Check.{check-passed, check_failed}
+use Rattle.refusals.specs.Check.{check-passed}
 use Rattle.query_checker.proofs.names_in.Goals as goal
 
 pub overflow_cast-result : goal.overflow_cast-result

@@ -1,6 +1,5 @@
 -- `link` meets its contract: the links of an inverse are those of the chain from its end, each inverted.
 use mathlib.Core.Path.{sym, ◌∙◌}
-use borrow.Author.Rules.{rules}
 use Rattle.query_simulation.specs.AskedLaws.{asked-past, asked-name, asked-inverse}
 use Rattle.query_parts.proofs.link.Goals as goal
 

@@ -1,10 +1,8 @@
 use mathlib.Core.Path.{◌≡◌, sym, ◌∙◌}
-use Prim.Native.Nat.{◌≤◌, ◌-◌}
 use native.Mathlib.Omega.{arith}
 use borrow.Author.Rules.{rules}
 use Rattle.book_format.specs.Place.{rule_place}
 use Rattle.book_cursor.specs.CursorLaws.{Hands, Yields, yields}
-use Rattle.rule_index.specs.Filling.{Entering}
 use Rattle.rule_index.specs.FillingLaws.{entering_none, entering_more}
 use Rattle.rule_index.proofs.enter.Goals as goal
 use Rattle.rule_index.proofs.enter.Goals.{After-step, In-Rule}

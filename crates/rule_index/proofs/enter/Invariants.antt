@@ -1,12 +1,9 @@
 -- `enter` meets its contract. The invariant: the cursor is at rule `k`, and the rules before it are entered.
-use mathlib.Core.Path.{◌≡◌, sym, ◌∙◌}
+use mathlib.Core.Path.{◌≡◌}
 use Prim.Native.Nat.{◌≤◌, ◌-◌}
-use native.Mathlib.Omega.{arith}
 use borrow.Author.Rules.{rules}
 use Rattle.book_format.specs.Place.{rule_place}
-use Rattle.book_cursor.specs.CursorLaws.{Hands, Yields, yields}
 use Rattle.rule_index.specs.Filling.{Entering}
-use Rattle.rule_index.specs.FillingLaws.{entering_none, entering_more}
 use Rattle.rule_index.proofs.enter.Given as goal
 
 abbrev pub invariant-loop-k : goal.invariant-loop-k

@@ -1,10 +1,8 @@
 use mathlib.Core.Path.{sym, ◌∙◌}
-use Prim.Native.Nat.{◌≤◌, ◌-◌, ◌+◌}
+use Prim.Native.Nat.{◌+◌}
 use native.Mathlib.Omega.{arith}
-use borrow.Author.Rules.{rules}
 use lib.ListN.{length-set}
 use Rattle.rule_index.specs.NumberedShape.{Says}
-use Rattle.rule_index.specs.Filling.{Copied}
 use Rattle.rule_index.specs.FillingLaws.{copied_none, copied_more, copied_all, found-says}
 use Rattle.rule_index.proofs.enter_rule.Goals as goal
 use Rattle.rule_index.proofs.enter_rule.Goals.{After-numbers_of-numbers}

@@ -1,7 +1,6 @@
 -- `index` meets its contract: `order` gives the verdict, and on an ordered book the three steps fill the index.
 use mathlib.Core.Path.{ap}
 use native.Mathlib.Omega.{arith}
-use borrow.Author.Rules.{rules}
 use Rattle.book_decoder.specs.Verdict.{says}
 use Rattle.rule_index.specs.IndexesLaws.{indexes_refused, indexes_other, rules-whole, linkable, indexes_filled}
 use Rattle.rule_index.proofs.index.Goals as goal

@@ -1,12 +1,8 @@
-use mathlib.Core.List.{List}
 use mathlib.Core.Path.{◌≡◌, sym, ◌∙◌}
 use Prim.Native.Nat.{◌≤◌, ◌<◌, ◌-◌}
 use native.Mathlib.Omega.{arith}
-use borrow.Author.Rules.{rules}
-use lib.ListN.{length, length-set}
-use Rattle.roles.specs.Rule.{Rule}
+use lib.ListN.{length-set}
 use Rattle.rule_index.specs.RuleIndex.{right_in, kind_in}
-use Rattle.rule_index.specs.Filling.{Linkable, Linking}
 use Rattle.rule_index.specs.LinkingLaws.{linking_none, role-small, kind-small, name-small, linking_more}
 use Rattle.rule_index.proofs.link.Goals as goal
 use Rattle.rule_index.proofs.link.Goals.{After-name-x, In-loop-k}

@@ -1,14 +1,11 @@
 -- `link` meets its contract. The invariant: the rules from `k` on are linked, and all else is as it was.
 use mathlib.Core.List.{List}
-use mathlib.Core.Path.{◌≡◌, sym, ◌∙◌}
-use Prim.Native.Nat.{◌≤◌, ◌<◌, ◌-◌}
-use native.Mathlib.Omega.{arith}
+use mathlib.Core.Path.{◌≡◌}
+use Prim.Native.Nat.{◌≤◌}
 use borrow.Author.Rules.{rules}
-use lib.ListN.{length, length-set}
+use lib.ListN.{length}
 use Rattle.roles.specs.Rule.{Rule}
-use Rattle.rule_index.specs.RuleIndex.{right_in, kind_in}
 use Rattle.rule_index.specs.Filling.{Linkable, Linking}
-use Rattle.rule_index.specs.LinkingLaws.{linking_none, role-small, kind-small, name-small, linking_more}
 use Rattle.rule_index.proofs.link.Given as goal
 
 abbrev pub invariant-loop-k : goal.invariant-loop-k

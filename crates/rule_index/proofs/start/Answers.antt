@@ -1,9 +1,6 @@
 use mathlib.Core.Path.{◌≡◌, sym, ◌∙◌}
-use Prim.Native.Nat.{◌≤◌, ◌-◌}
 use native.Mathlib.Omega.{arith}
-use borrow.Author.Rules.{rules}
 use lib.ListN.{length-set}
-use Rattle.rule_index.specs.Filling.{Started}
 use Rattle.rule_index.specs.FillingLaws.{started_none, started_more}
 use Rattle.rule_index.proofs.start.Goals as goal
 

@@ -1,11 +1,6 @@
 -- `start` meets its contract. The invariant: the names below `x` have no rule, and their levels.
-use mathlib.Core.Path.{◌≡◌, sym, ◌∙◌}
 use Prim.Native.Nat.{◌≤◌, ◌-◌}
-use native.Mathlib.Omega.{arith}
-use borrow.Author.Rules.{rules}
-use lib.ListN.{length-set}
 use Rattle.rule_index.specs.Filling.{Started}
-use Rattle.rule_index.specs.FillingLaws.{started_none, started_more}
 use Rattle.rule_index.proofs.start.Given as goal
 
 abbrev pub invariant-loop-x : goal.invariant-loop-x

@@ -1,10 +1,5 @@
-use mathlib.Core.Path.{◌≡◌, refl, sym}
-use Prim.Native.Nat.{◌≤◌, ◌-◌}
+use mathlib.Core.Path.{refl, sym}
 use native.Mathlib.Omega.{arith}
-use borrow.Author.Rules.{rules}
-use lib.ListN.{length, take}
-use lib.Seq.{take-length}
-use Rattle.roles.specs.Role.{inv_chain}
 use Rattle.roles.specs.RoleLaws.{inv_chain_nil}
 use Rattle.rule_keys.specs.Key.{code as code_of_lem}
 use Rattle.rule_keys.specs.CodeLaws.{inverse-front, inverse-next}

@@ -1,14 +1,9 @@
 -- `inverse_code` meets its contract. The invariant: the code is that of the inverse of the first i roles.
-use mathlib.Core.Path.{◌≡◌, refl, sym}
+use mathlib.Core.Path.{◌≡◌}
 use Prim.Native.Nat.{◌≤◌, ◌-◌}
-use native.Mathlib.Omega.{arith}
-use borrow.Author.Rules.{rules}
 use lib.ListN.{length, take}
-use lib.Seq.{take-length}
 use Rattle.roles.specs.Role.{inv_chain}
-use Rattle.roles.specs.RoleLaws.{inv_chain_nil}
 use Rattle.rule_keys.specs.Key.{code as code_of_lem}
-use Rattle.rule_keys.specs.CodeLaws.{inverse-front, inverse-next}
 use Rattle.rule_keys.proofs.inverse_code.Given as goal
 
 abbrev pub invariant-loop-i : goal.invariant-loop-i

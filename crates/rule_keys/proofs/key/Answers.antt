@@ -3,12 +3,11 @@ use mathlib.Core.Bool.{Bool, true, false}
 use mathlib.Core.Path.{sym, ◌∙◌}
 use Prim.Native.Nat.{◌+◌, ◌^◌, ◌<◌, ◌≤◌}
 use native.Mathlib.Omega.{arith}
-use borrow.Author.Rules.{rules}
 use Rattle.roles.specs.Role.{name, turn}
 use Rattle.roles.specs.RoleLaws.{name_below}
 use Rattle.rule_keys.specs.Key.{code}
 use Rattle.rule_keys.specs.CodeLaws.{code-turn}
-use Rattle.rule_keys.specs.KeyLaws.{keyed-none, keyed-some}
+use Rattle.rule_keys.specs.KeyLaws.{keyed-some}
 use Rattle.rule_keys.proofs.key.Goals as goal
 use Rattle.rule_keys.proofs.key.Goals.{After-is_inverse}
 

@@ -1,8 +1,6 @@
-use mathlib.Core.Path.{◌≡◌, sym, ap}
-use Prim.Native.Nat.{◌≤◌, ◌-◌}
+use mathlib.Core.Path.{sym, ap}
+use Prim.Native.Nat.{◌-◌}
 use native.Mathlib.Omega.{arith}
-use borrow.Author.Rules.{rules}
-use lib.ListN.{length, drop}
 use lib.Seq.{drop-length}
 use Rattle.rule_keys.specs.Key.{code as code_of_lem}
 use Rattle.rule_keys.specs.CodeLaws.{code-rest, code-next}

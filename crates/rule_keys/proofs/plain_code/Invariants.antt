@@ -1,12 +1,8 @@
 -- `plain_code` meets its contract. The invariant: the code is that of the roles from i on.
-use mathlib.Core.Path.{◌≡◌, sym, ap}
-use Prim.Native.Nat.{◌≤◌, ◌-◌}
-use native.Mathlib.Omega.{arith}
-use borrow.Author.Rules.{rules}
+use mathlib.Core.Path.{◌≡◌}
+use Prim.Native.Nat.{◌≤◌}
 use lib.ListN.{length, drop}
-use lib.Seq.{drop-length}
 use Rattle.rule_keys.specs.Key.{code as code_of_lem}
-use Rattle.rule_keys.specs.CodeLaws.{code-rest, code-next}
 use Rattle.rule_keys.proofs.plain_code.Given as goal
 
 abbrev pub invariant-loop-i : goal.invariant-loop-i

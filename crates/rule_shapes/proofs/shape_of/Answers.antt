@@ -1,8 +1,6 @@
 -- `shape_of` meets its contract: the length, the first and the last letter settle the shape.
-use mathlib.Core.Logic.{⊎_elim}
 use mathlib.Core.Path.{sym, ◌∙◌}
 use native.Mathlib.Omega.{arith}
-use borrow.Author.Rules.{rules}
 use Rattle.order.specs.ShapeTests.{shape-short, shape-symmetric, shape-transitive, shape-led, shape_trailed, shape_long}
 use Rattle.rule_shapes.specs.FoundShapeLaws.{found-transitive, found-symmetric, found_plain, found-led, found_trailed}
 use Rattle.rule_shapes.proofs.shape_of.Goals as goal

@@ -1,7 +1,6 @@
 -- `build` meets its contract: the book is checked and indexed, its tables are counted, laid and judged.
 use Prim.Native.Nat.{ℕ}
 use lib.ListN.{length, length-replicate}
-use borrow.Author.Rules.{rules}
 use Rattle.table_builder.specs.BuildsLaws.{checked, count-ready, laying_ready, builds_settled}
 use Rattle.table_builder.proofs.build.Goals as goal
 

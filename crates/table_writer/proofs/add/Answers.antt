@@ -1,8 +1,5 @@
 -- `add` meets its contract: three numbers, none where there is no room, and nothing counted where the tables are full.
 use native.Mathlib.Omega.{arith}
-use lib.ListN.{length-set}
-use borrow.Author.Tests.{not-true, not-false}
-use borrow.Author.Rules.{rules}
 use Rattle.table_writer.specs.AddingLaws.{adds_absent, adds_past, adds_full, adds_short, adds_next}
 use Rattle.table_writer.proofs.add.Goals as goal
 

@@ -1,6 +1,5 @@
 -- `letters` meets its contract: too late for two states, or three additions one after another.
 use native.Mathlib.Omega.{arith}
-use borrow.Author.Rules.{rules}
 use Rattle.table_writer.specs.AddingLaws.{letters-past, letters-next}
 use Rattle.table_writer.proofs.letters.Goals as goal
 

@@ -1,6 +1,4 @@
-use Prim.Native.Nat.{◌+◌}
 use native.Mathlib.Omega.{arith}
-use borrow.Author.Rules.{rules}
 use Rattle.book_cursor.specs.CursorLaws.{step-malformed, step-whole}
 use Rattle.book_cursor.proofs.Cursor.step.Goals as goal
 

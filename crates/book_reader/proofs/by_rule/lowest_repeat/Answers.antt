@@ -1,16 +1,15 @@
 use mathlib.Core.Path.{◌≡◌, refl, ◌∙◌}
-use Prim.Native.Nat.{ℕ, ◌-◌, ◌%◌, ◌≤◌}
 use native.Mathlib.Omega.{arith}
 use borrow.Author.Rules.{rules}
 use borrow.Author.Tests.{not-true, not-false}
 use Rattle.refusals.specs.Check.{check-passed, check_failed}
 use Rattle.book_decoder.specs.VerdictLaws.{headed}
 use Rattle.book_format.specs.Place.{rule_place}
-use Rattle.book_format.specs.RepeatLaws.{Searching, searching_start}
-use Rattle.book_reader.specs.EnteredLaws.{entered-none, last-listed, last-among}
+use Rattle.book_format.specs.RepeatLaws.{searching_start}
+use Rattle.book_reader.specs.EnteredLaws.{entered-none, last-among}
 use Rattle.book_reader.specs.ShortLaws.{bounded}
 use Rattle.book_reader.specs.KeyedAtLaws.{turn-whole, turn-short, turn-key, turn-next}
-use Rattle.book_reader.specs.RepeatSearchLaws.{judged-none, Met, met_next, rule-repeats, rule_passes}
+use Rattle.book_reader.specs.RepeatSearchLaws.{judged-none, met_next, rule-repeats, rule_passes}
 use Rattle.book_reader.proofs.by_rule.lowest_repeat.Goals as goal
 
 pub loop-later-init : goal.loop-later-init

@@ -1,11 +1,10 @@
 use mathlib.Core.Path.{◌≡◌, ◌∙◌}
-use Prim.Native.Nat.{◌-◌, ◌<◌, ◌≤◌}
+use Prim.Native.Nat.{◌<◌}
 use native.Mathlib.Omega.{arith}
 use borrow.Author.Rules.{rules}
 use Rattle.book_decoder.specs.VerdictLaws.{headed}
 use Rattle.book_format.specs.Place.{rule_place}
 use Rattle.book_reader.specs.EnteredLaws.{entered-none}
-use Rattle.book_reader.specs.Lowest.{Sized}
 use Rattle.book_reader.specs.LowestLaws.{sized_start, sized_next}
 use Rattle.book_reader.specs.ShortLaws.{bounded}
 use Rattle.book_reader.specs.KeyedAtLaws.{turn-whole, turn-short, turn-key, turn-next, turn_target, turn-name}

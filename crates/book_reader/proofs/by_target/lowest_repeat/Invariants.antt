@@ -1,16 +1,10 @@
 -- `lowest_repeat` meets its contract. The invariant: the cursor is at rule `rule`, and the rules before it are met, in lists by name.
-use mathlib.Core.Path.{◌≡◌, ◌∙◌}
-use Prim.Native.Nat.{◌-◌, ◌<◌, ◌≤◌}
-use native.Mathlib.Omega.{arith}
+use mathlib.Core.Path.{◌≡◌}
+use Prim.Native.Nat.{◌-◌, ◌≤◌}
 use borrow.Author.Rules.{rules}
-use Rattle.book_decoder.specs.VerdictLaws.{headed}
 use Rattle.book_format.specs.Place.{rule_place}
-use Rattle.book_reader.specs.EnteredLaws.{entered-none}
 use Rattle.book_reader.specs.Lowest.{Sized}
-use Rattle.book_reader.specs.LowestLaws.{sized_start, sized_next}
-use Rattle.book_reader.specs.ShortLaws.{bounded}
-use Rattle.book_reader.specs.KeyedAtLaws.{turn-whole, turn-short, turn-key, turn-next, turn_target, turn-name}
-use Rattle.book_reader.specs.RepeatSearchLaws.{Met, met_next, lowest_judged}
+use Rattle.book_reader.specs.RepeatSearchLaws.{Met}
 use Rattle.book_reader.proofs.by_target.lowest_repeat.Given as goal
 
 abbrev pub invariant-loop-rule : goal.invariant-loop-rule

@@ -1,10 +1,7 @@
 -- `over_names` meets its contract. The invariant: the lowest repeat of the names before the present one.
-use mathlib.Core.Path.{◌≡◌}
 use Prim.Native.Nat.{◌-◌, ◌≤◌}
-use native.Mathlib.Omega.{arith}
 use borrow.Author.Rules.{rules}
 use Rattle.book_reader.specs.Lowest.{Lowest}
-use Rattle.book_reader.specs.LowestLaws.{lowest_start, lowest_own, lowest_kept}
 use Rattle.book_reader.proofs.by_target.over_names.Given as goal
 
 abbrev pub invariant-loop-name : goal.invariant-loop-name

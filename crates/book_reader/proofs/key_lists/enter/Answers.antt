@@ -1,8 +1,4 @@
 -- `enter` meets its contract: the key stands in its place, and its list begins with it.
-use mathlib.Core.Path.{refl}
-use native.Mathlib.Omega.{arith}
-use borrow.Author.Rules.{rules}
-use lib.ListN.{length-set}
 use Rattle.book_reader.specs.EnteredLaws.{entered-more}
 use Rattle.book_reader.proofs.key_lists.enter.Goals as goal
 

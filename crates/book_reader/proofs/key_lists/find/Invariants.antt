@@ -1,8 +1,5 @@
 -- `find` meets its contract. The invariant: of the keys before the entry that it began at, those from the present entry on are others.
-use Prim.Native.Nat.{◌+◌, ◌-◌}
-use native.Mathlib.Omega.{arith}
-use borrow.Author.Rules.{rules}
-use Rattle.book_reader.specs.EnteredLaws.{Walked, walked_start, walked_low, walked_less, walked_next, walked_found, walked_end}
+use Rattle.book_reader.specs.EnteredLaws.{Walked}
 use Rattle.book_reader.proofs.key_lists.find.Given as goal
 
 abbrev pub invariant-loop-at : goal.invariant-loop-at

@@ -2,7 +2,6 @@
 use mathlib.Core.Bool.{Bool, not}
 use mathlib.Core.Path.{sym, ap}
 use native.Mathlib.Omega.{arith}
-use borrow.Author.Rules.{rules}
 use Rattle.refusals.specs.Check.{check}
 use Rattle.book_reader.specs.EnteredLaws.{found_among, none-among}
 use Rattle.book_reader.proofs.key_lists.fresh.Goals as goal

@@ -1,9 +1,5 @@
 -- `keyed_rule` meets its contract: the step hands out the rule at the cursor, and its left side is a part of the book.
-use mathlib.Core.Bool.{true≢false}
-use mathlib.Core.Path.{sym, ◌∙◌}
-use native.Mathlib.Omega.{arith}
-use borrow.Author.Rules.{rules}
-use Rattle.book_cursor.specs.CursorLaws.{Stepped, step-rule, step-none}
+use Rattle.book_cursor.specs.CursorLaws.{Stepped, step-rule}
 use Rattle.book_reader.specs.KeyedAtLaws.{stepped_fits, stepped_keyed}
 use Rattle.book_reader.proofs.keyed_rule.keyed_rule.Goals as goal
 use Rattle.book_reader.proofs.keyed_rule.keyed_rule.Goals.{In-Rule}

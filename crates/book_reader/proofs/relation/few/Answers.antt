@@ -1,9 +1,6 @@
-use Prim.Native.Nat.{◌+◌, ◌-◌}
-use native.Mathlib.Omega.{arith}
-use borrow.Author.Rules.{rules}
 use borrow.Author.Tests.{not-true, not-false}
 use Rattle.refusals.specs.Check.{check-passed, check_failed}
-use Rattle.book_reader.specs.RelationLaws.{relation-low, relation-less, Compared, compared_start, compared_end, compared_listed, compared_found, compared_passed, compared_above}
+use Rattle.book_reader.specs.RelationLaws.{compared_start, compared_found, compared_passed, compared_above}
 use Rattle.book_reader.proofs.relation.few.Goals as goal
 
 pub loop-at-init : goal.loop-at-init

@@ -1,10 +1,9 @@
 use mathlib.Core.Path.{refl}
-use Prim.Native.Nat.{◌+◌, ◌-◌, ◌%◌}
+use Prim.Native.Nat.{◌-◌}
 use native.Mathlib.Omega.{arith}
-use borrow.Author.Rules.{rules}
 use lib.ListN.{get_or}
-use Rattle.book_reader.specs.EnteredLaws.{last-listed, last_found}
-use Rattle.book_reader.specs.RelationLaws.{relation-low, relation-less, Split, split-start, split-end, split-next}
+use Rattle.book_reader.specs.EnteredLaws.{last_found}
+use Rattle.book_reader.specs.RelationLaws.{split-start, split-end, split-next}
 use Rattle.book_reader.proofs.relation.many.Goals as goal
 
 pub loop-at-init : goal.loop-at-init

@@ -2,7 +2,6 @@
 use mathlib.Core.Path.{refl}
 use Prim.Native.Nat.{◌≤◌}
 use native.Mathlib.Omega.{arith}
-use borrow.Author.Rules.{rules}
 use Rattle.book_questions.specs.RuleTable.{links_in}
 use Rattle.derivation_checker.specs.AppliedLaws.{no_place, no_rule, no-side, no-right, no_room, taken, taken-one, left-read, left-some, left-most}
 use Rattle.derivation_checker.proofs.step.apply.Goals as goal

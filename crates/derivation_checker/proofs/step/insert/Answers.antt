@@ -1,6 +1,5 @@
 -- `insert` meets its contract: after the links are moved the left side fits into the gap.
 use native.Mathlib.Omega.{arith}
-use borrow.Author.Rules.{rules}
 use Rattle.derivation_checker.specs.InsertionLaws.{inserted-whole}
 use Rattle.derivation_checker.proofs.step.insert.Goals as goal
 

@@ -1,11 +1,8 @@
 -- `put` meets its contract. The invariant: the first i links of the left side are put.
-use mathlib.Core.Path.{◌≡◌, refl, ◌∙◌}
+use mathlib.Core.Path.{◌≡◌}
 use Prim.Native.Nat.{◌-◌, ◌≤◌}
-use native.Mathlib.Numerals.{add-one}
-use native.Mathlib.Omega.{arith}
-use borrow.Author.Rules.{rules}
-use lib.ListN.{length, length-set}
-use lib.Seq.{paste, paste-zero, paste-suc}
+use lib.ListN.{length}
+use lib.Seq.{paste}
 use Rattle.derivation_checker.proofs.step.put.Given as goal
 
 abbrev pub invariant-loop-i : goal.invariant-loop-i

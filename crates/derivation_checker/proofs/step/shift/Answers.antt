@@ -1,10 +1,9 @@
 use mathlib.Core.Path.{◌≡◌, refl, ◌∙◌}
-use Prim.Native.Nat.{◌+◌, ◌-◌, ◌≤◌}
+use Prim.Native.Nat.{◌+◌}
 use native.Mathlib.Nat.{sub_self}
 use native.Mathlib.Omega.{arith}
-use borrow.Author.Rules.{rules}
-use lib.ListN.{length, length-set, drop}
-use lib.Seq.{paste, paste-zero}
+use lib.ListN.{length-set, drop}
+use lib.Seq.{paste-zero}
 use Rattle.derivation_checker.specs.InsertionLaws.{paste_next}
 use Rattle.derivation_checker.proofs.step.shift.Goals as goal
 

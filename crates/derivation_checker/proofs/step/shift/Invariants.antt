@@ -1,12 +1,8 @@
 -- `shift` meets its contract. The invariant: the links from i on are moved.
-use mathlib.Core.Path.{◌≡◌, refl, ◌∙◌}
+use mathlib.Core.Path.{◌≡◌}
 use Prim.Native.Nat.{◌+◌, ◌-◌, ◌≤◌}
-use native.Mathlib.Nat.{sub_self}
-use native.Mathlib.Omega.{arith}
-use borrow.Author.Rules.{rules}
-use lib.ListN.{length, length-set, drop}
-use lib.Seq.{paste, paste-zero}
-use Rattle.derivation_checker.specs.InsertionLaws.{paste_next}
+use lib.ListN.{length, drop}
+use lib.Seq.{paste}
 use Rattle.derivation_checker.proofs.step.shift.Given as goal
 
 abbrev pub invariant-loop-i : goal.invariant-loop-i

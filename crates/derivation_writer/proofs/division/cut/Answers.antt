@@ -1,6 +1,5 @@
-use Prim.Native.Nat.{◌+◌, ◌-◌}
+use Prim.Native.Nat.{◌+◌}
 use native.Mathlib.Omega.{arith}
-use borrow.Author.Rules.{rules}
 use Rattle.derivation_writer.specs.Division.{Cutting}
 use Rattle.derivation_writer.specs.DivisionLaws.{cut-last, cutting_start, cutting_next}
 use Rattle.derivation_writer.proofs.division.cut.Goals as goal

@@ -1,9 +1,6 @@
 -- `cut` meets its contract. The invariant: a place where the role can end is not before m.
-use Prim.Native.Nat.{◌+◌, ◌-◌}
-use native.Mathlib.Omega.{arith}
-use borrow.Author.Rules.{rules}
+use Prim.Native.Nat.{◌-◌}
 use Rattle.derivation_writer.specs.Division.{Cutting}
-use Rattle.derivation_writer.specs.DivisionLaws.{cut-last, cutting_start, cutting_next}
 use Rattle.derivation_writer.proofs.division.cut.Given as goal
 
 abbrev pub invariant-loop-m : goal.invariant-loop-m

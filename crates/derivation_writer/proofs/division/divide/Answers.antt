@@ -1,8 +1,4 @@
-use Prim.Native.Nat.{◌-◌}
 use native.Mathlib.Omega.{arith}
-use borrow.Author.Rules.{rules}
-use lib.ListN.{length}
-use Rattle.derivation_writer.specs.Division.{Dividing}
 use Rattle.derivation_writer.specs.DivisionLaws.{dividing_start, dividing_next, dividing_end, dividing_size, divided_one}
 use Rattle.derivation_writer.proofs.division.divide.Goals as goal
 

@@ -1,10 +1,7 @@
 -- `divide` meets its contract. The invariant: the roles before t are stored with their ends, and the others spell the rest of the part.
 use Prim.Native.Nat.{◌-◌}
-use native.Mathlib.Omega.{arith}
-use borrow.Author.Rules.{rules}
 use lib.ListN.{length}
 use Rattle.derivation_writer.specs.Division.{Dividing}
-use Rattle.derivation_writer.specs.DivisionLaws.{dividing_start, dividing_next, dividing_end, dividing_size, divided_one}
 use Rattle.derivation_writer.proofs.division.divide.Given as goal
 
 abbrev pub invariant-loop-t : goal.invariant-loop-t

@@ -3,9 +3,8 @@ use mathlib.Core.Bool.{true, true≢false}
 use mathlib.Core.List.{List}
 use mathlib.Core.Path.{sym, ◌∙◌, subst}
 use Prim.Native.Nat.{ℕ, ◌+◌}
-use borrow.Author.Rules.{rules}
 use Rattle.base.specs.Part.{part-behind}
-use Rattle.base.specs.Reflects.{Reflects, test_failed, test_passed}
+use Rattle.base.specs.Reflects.{Reflects}
 use Rattle.derivation_charts.specs.Chart.{Found, Splits}
 use Rattle.derivation_charts.specs.ReachingLaws.{reach-one}
 use Rattle.derivation_writer.specs.DivisionLaws.{divides_not, divides_rest, last-splits}

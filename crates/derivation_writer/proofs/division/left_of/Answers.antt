@@ -1,5 +1,4 @@
 -- `left_of` meets its contract.
-use borrow.Author.Rules.{rules}
 use Rattle.derivation_writer.specs.DivisionLaws.{left-read}
 use Rattle.derivation_writer.proofs.division.left_of.Goals as goal
 

@@ -1,7 +1,6 @@
 -- `rule_by` meets its contract.
 use Prim.Native.Nat.{◌+◌, ◌*◌, ◌-◌}
 use native.Mathlib.Omega.{arith}
-use borrow.Author.Rules.{rules}
 use Rattle.derivation_writer.proofs.division.rule_by.Goals as goal
 
 pub overflow_cast-result-2 : goal.overflow_cast-result-2

@@ -1,5 +1,4 @@
 -- `stands` meets its contract.
-use borrow.Author.Rules.{rules}
 use Rattle.derivation_writer.specs.DivisionLaws.{stands_not, stands-link}
 use Rattle.derivation_writer.proofs.division.stands.Goals as goal
 

@@ -1,7 +1,6 @@
 -- `turn` meets its contract.
 use Prim.Native.Nat.{◌/◌, ◌%◌}
 use native.Mathlib.Omega.{arith}
-use borrow.Author.Rules.{rules}
 use Rattle.derivation_steps.specs.StepBytes.{StepPut}
 use Rattle.derivation_steps.specs.StepBytesLaws.{put_small}
 use Rattle.derivation_writer.specs.TracingLaws.{First, first, first-inside, Given, given, turned-link, turned-rule}

@@ -1,9 +1,8 @@
-use mathlib.Core.List.{[], ◌∷◌}
+use mathlib.Core.List.{◌∷◌}
 use mathlib.Core.Path.{sym, ◌∙◌, ap}
-use Prim.Native.Nat.{ℕ, ◌+◌, ◌-◌, ◌<◌}
+use Prim.Native.Nat.{ℕ}
 use native.Mathlib.Omega.{arith}
 use lib.ListN.{length-set}
-use Rattle.derivation_writer.specs.Tracing.{Ready, Tracing}
 use Rattle.derivation_writer.specs.TracingLaws.{first, tracing-start, tracing-near, tracing-end, last-pending}
 use Rattle.derivation_writer.proofs.trace.walk.Goals as goal
 

@@ -1,8 +1,6 @@
 -- `left` is safe and ends.
 -- LENGTHS 17 given, 13 needs
 use Prim.Native.Nat.{◌-◌}
-use native.Mathlib.Omega.{arith}
-use borrow.Author.Rules.{rules}
 use lib.ListN.{length}
 use Rattle.examples_reader.proofs.verdicts.left.Given as goal
 

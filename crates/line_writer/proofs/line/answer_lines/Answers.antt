@@ -1,8 +1,3 @@
-use Prim.Native.Nat.{◌-◌}
-use borrow.Author.Rules.{rules}
-use borrow.Author.Tests.{not-true, not-false}
-use lib.ListN.{length}
-use Rattle.line_writer.specs.Said.{LinesPut}
 use Rattle.line_writer.specs.SaidLaws.{lines_none, lines-one, lines-all, no_lines}
 use Rattle.line_writer.proofs.line.answer_lines.Goals as goal
 

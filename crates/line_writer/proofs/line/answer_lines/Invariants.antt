@@ -1,10 +1,7 @@
 -- `answer_lines` meets its contract. The invariant: the lines of the first i answers are put, each of at most 64 bytes.
 use Prim.Native.Nat.{◌-◌}
-use borrow.Author.Rules.{rules}
-use borrow.Author.Tests.{not-true, not-false}
 use lib.ListN.{length}
 use Rattle.line_writer.specs.Said.{LinesPut}
-use Rattle.line_writer.specs.SaidLaws.{lines_none, lines-one, lines-all, no_lines}
 use Rattle.line_writer.proofs.line.answer_lines.Given as goal
 
 abbrev pub invariant-loop-i : goal.invariant-loop-i

@@ -1,6 +1,5 @@
 -- `first_line` meets its contract: the numbers, after their word.
 -- LENGTHS 10 given, 5 needs
-use borrow.Author.Rules.{rules}
 use Rattle.line_writer.specs.SaidLaws.{puts_third}
 use Rattle.line_writer.proofs.line.first_line.Goals as goal
 

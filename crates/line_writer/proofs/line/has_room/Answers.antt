@@ -1,5 +1,4 @@
 -- `has_room` meets its contract: each test settles one half of what room is.
-use borrow.Author.Rules.{rules}
 use borrow.Author.Tests.{leb-true, leb-false}
 use native.Mathlib.Omega.{arith}
 use Rattle.line_writer.specs.SaidLaws.{no_room}

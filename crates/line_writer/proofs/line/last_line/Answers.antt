@@ -1,7 +1,6 @@
 -- `last_line` meets its contract: each test settles what stands at the front of the input.
 -- LENGTHS 6 given, 5 needs
 use mathlib.Core.Path.{sym, ◌∙◌}
-use borrow.Author.Rules.{rules}
 use borrow.Author.Tests.{leb-true, leb-false}
 use Rattle.line_writer.specs.SaidLaws.{ends-nothing, ends-whole, ends-part}
 use Rattle.line_writer.proofs.line.last_line.Goals as goal

@@ -1,6 +1,5 @@
 -- `put_answer` meets its contract: the number, then what the answer says.
 -- LENGTHS 14 given, 10 needs
-use borrow.Author.Rules.{rules}
 use Rattle.line_writer.specs.SaidLaws.{puts-no, puts-yes, puts-refused}
 use Rattle.line_writer.proofs.line.put_answer.Goals as goal
 

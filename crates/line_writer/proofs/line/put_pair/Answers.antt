@@ -1,6 +1,5 @@
 -- `put_pair` meets its contract: its parts, one after another.
 -- LENGTHS 6 given, 5 needs
-use borrow.Author.Rules.{rules}
 use Rattle.line_writer.specs.SaidLaws.{puts-pair}
 use Rattle.line_writer.proofs.line.put_pair.Goals as goal
 

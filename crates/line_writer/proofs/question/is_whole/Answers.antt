@@ -1,5 +1,4 @@
 -- `is_whole` meets its contract: a length of 16 bits is small.
-use borrow.Author.Rules.{rules}
 use mathlib.Core.Path.{ap}
 use Prim.Native.Nat.{ℕ, ◌+◌}
 use native.Mathlib.Omega.{arith}

@@ -1,8 +1,5 @@
-use Prim.Native.Nat.{◌+◌, ◌-◌, ◌≤◌}
 use native.Mathlib.Omega.{arith}
-use lib.ListN.{length, take}
 use borrow.Author.Rules.{rules}
-use Rattle.line_writer.specs.Puts.{Puts}
 use Rattle.line_writer.specs.PutsLaws.{puts_none, puts-next, puts-all, puts-length}
 use Rattle.line_writer.proofs.text.put.Goals as goal
 

@@ -1,10 +1,7 @@
 -- `put` meets its contract: the buffer has one more byte of the text at each turn.
 use Prim.Native.Nat.{◌+◌, ◌-◌, ◌≤◌}
-use native.Mathlib.Omega.{arith}
 use lib.ListN.{length, take}
-use borrow.Author.Rules.{rules}
 use Rattle.line_writer.specs.Puts.{Puts}
-use Rattle.line_writer.specs.PutsLaws.{puts_none, puts-next, puts-all, puts-length}
 use Rattle.line_writer.proofs.text.put.Given as goal
 
 abbrev pub invariant-loop-i : goal.invariant-loop-i

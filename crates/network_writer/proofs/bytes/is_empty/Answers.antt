@@ -1,9 +1,6 @@
 use mathlib.Core.Bool.{true≢false}
 use mathlib.Core.Path.{◌≡◌, sym, ◌∙◌}
-use Prim.Native.Nat.{◌-◌, ◌≤◌}
 use native.Mathlib.Omega.{arith}
-use borrow.Author.Rules.{rules}
-use Rattle.network_writer.specs.RowBytes.{NoLinks}
 use Rattle.network_writer.specs.RowBytesLaws.{no-links-next}
 use Rattle.network_writer.proofs.bytes.is_empty.Goals as goal
 

@@ -1,8 +1,7 @@
 use mathlib.Core.Path.{◌≡◌, subst}
-use Prim.Native.Nat.{ℕ, ◌-◌, ◌*◌, ◌≤◌}
+use Prim.Native.Nat.{ℕ, ◌*◌}
 use native.Mathlib.Nat.{zero-add}
 use native.Mathlib.Omega.{arith}
-use borrow.Author.Rules.{rules}
 use Rattle.network_writer.specs.WritesNetwork.{joined}
 use Rattle.network_writer.specs.RowBytes.{name_bytes, Puts}
 use Rattle.network_writer.specs.RowBytesLaws.{length-name, puts-size, puts-start, puts-next, puts-room}

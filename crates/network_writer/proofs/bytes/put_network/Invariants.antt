@@ -1,12 +1,7 @@
 -- `put_network` meets its contract. The invariant: the links of the first names are put.
-use mathlib.Core.Path.{◌≡◌, subst}
-use Prim.Native.Nat.{ℕ, ◌-◌, ◌*◌, ◌≤◌}
-use native.Mathlib.Nat.{zero-add}
-use native.Mathlib.Omega.{arith}
-use borrow.Author.Rules.{rules}
+use Prim.Native.Nat.{◌-◌, ◌*◌, ◌≤◌}
 use Rattle.network_writer.specs.WritesNetwork.{joined}
 use Rattle.network_writer.specs.RowBytes.{name_bytes, Puts}
-use Rattle.network_writer.specs.RowBytesLaws.{length-name, puts-size, puts-start, puts-next, puts-room}
 use Rattle.network_writer.proofs.bytes.put_network.Given as goal
 
 abbrev pub invariant-loop-x : goal.invariant-loop-x

@@ -1,12 +1,8 @@
 -- `put_rows` meets its contract. The invariant: the rows of the first places are put.
-use mathlib.Core.Path.{◌≡◌, subst}
-use Prim.Native.Nat.{ℕ, ◌+◌, ◌-◌, ◌≤◌}
-use native.Mathlib.Omega.{arith}
-use borrow.Author.Rules.{rules}
+use Prim.Native.Nat.{◌+◌, ◌-◌, ◌≤◌}
 use lib.ListN.{get_or}
 use Rattle.network_writer.specs.WritesNetwork.{joined}
 use Rattle.network_writer.specs.RowBytes.{row_bytes, Puts}
-use Rattle.network_writer.specs.RowBytesLaws.{length-row, puts-size, puts-start, puts-next, puts-room}
 use Rattle.network_writer.proofs.bytes.put_rows.Given as goal
 
 abbrev pub invariant-loop-from : goal.invariant-loop-from

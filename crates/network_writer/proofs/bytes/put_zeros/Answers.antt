@@ -1,11 +1,9 @@
-use mathlib.Core.List.{[], ◌∷◌}
+use mathlib.Core.List.{◌∷◌}
 use mathlib.Core.Path.{◌≡◌}
 use mir.Val.{bool_byte}
-use Prim.Native.Nat.{◌+◌, ◌-◌, ◌≤◌}
+use Prim.Native.Nat.{◌+◌}
 use native.Mathlib.Omega.{arith}
-use borrow.Author.Rules.{rules}
 use Rattle.name_sets.specs.Mask.{has}
-use Rattle.network_writer.specs.RowBytes.{row_bytes, Puts}
 use Rattle.network_writer.specs.RowBytesLaws.{puts-size, puts-start, puts-next, puts_byte, zero_byte}
 use Rattle.network_writer.proofs.bytes.put_zeros.Goals as goal
 

@@ -1,9 +1,7 @@
 use mathlib.Core.Path.{◌∙◌}
-use Prim.Native.Nat.{◌≤◌, ◌-◌}
 use native.Mathlib.Omega.{arith}
-use borrow.Author.Rules.{rules}
-use lib.ListN.{length, length-set}
-use Rattle.order_masks.specs.AbsorbLaws.{Absorbing, absorbing_start, absorbing_next, absorbing_end}
+use lib.ListN.{length-set}
+use Rattle.order_masks.specs.AbsorbLaws.{absorbing_start, absorbing_next, absorbing_end}
 use Rattle.order_checker.specs.FrontLaws.{absorbing_past}
 use Rattle.order_checker.proofs.masks.absorb.Goals as goal
 

@@ -1,11 +1,7 @@
 -- `absorb` meets its contract. The invariant: since the name itself has absorbed the set, the masks passed have grown, the others are as they were.
-use mathlib.Core.Path.{◌∙◌}
 use Prim.Native.Nat.{◌≤◌, ◌-◌}
-use native.Mathlib.Omega.{arith}
-use borrow.Author.Rules.{rules}
-use lib.ListN.{length, length-set}
-use Rattle.order_masks.specs.AbsorbLaws.{Absorbing, absorbing_start, absorbing_next, absorbing_end}
-use Rattle.order_checker.specs.FrontLaws.{absorbing_past}
+use lib.ListN.{length}
+use Rattle.order_masks.specs.AbsorbLaws.{Absorbing}
 use Rattle.order_checker.proofs.masks.absorb.Given as goal
 
 abbrev pub invariant-loop-x : goal.invariant-loop-x

@@ -1,6 +1,5 @@
 -- `grown` meets its contract.
 use mathlib.Core.Path.{refl, sym, ◌∙◌}
-use borrow.Author.Rules.{rules}
 use Rattle.order_checker.proofs.masks.grown.Goals as goal
 
 pub returns-then-has : goal.returns-then-has

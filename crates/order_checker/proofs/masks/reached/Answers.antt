@@ -1,10 +1,9 @@
 use mathlib.Core.Path.{◌∙◌}
-use Prim.Native.Nat.{◌≤◌, ◌<◌, ◌-◌}
+use Prim.Native.Nat.{◌<◌}
 use native.Mathlib.Omega.{arith}
-use borrow.Author.Rules.{rules}
 use lib.ListN.{length}
 use Rattle.name_sets.specs.MemberLaws.{only-named}
-use Rattle.order_masks.specs.ReachLaws.{Reaching, reaching-start, reaching-next, reaching-end}
+use Rattle.order_masks.specs.ReachLaws.{reaching-start, reaching-next, reaching-end}
 use Rattle.roles.specs.Role.{name}
 use Rattle.order_checker.proofs.masks.reached.Goals as goal
 use Rattle.order_checker.proofs.masks.reached.Goals.{After-name-inner}

@@ -1,5 +1,4 @@
 -- `answer` meets its contract: `cause_for` judges the question, and `run` decides one that is not refused.
-use borrow.Author.Rules.{rules}
 use Rattle.query_answerer.specs.BatchLaws.{asked-refused, ready_readable, asked_decided}
 use Rattle.query_answerer.proofs.batch.answer.Goals as goal
 

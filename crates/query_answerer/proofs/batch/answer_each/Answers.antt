@@ -1,10 +1,5 @@
-use mathlib.Core.Path.{◌≡◌, refl, ◌∙◌}
-use Prim.Native.Nat.{◌-◌}
+use mathlib.Core.Path.{refl, ◌∙◌}
 use native.Mathlib.Omega.{arith}
-use borrow.Author.Rules.{rules}
-use lib.ListN.{length}
-use Rattle.query_causes.specs.Query.{Answered}
-use Rattle.query_answerer.specs.Batch.{Ready, Going}
 use Rattle.query_answerer.specs.BatchLaws.{whole-fits, ready_renewed, going_none, going_next, going_full, going_broken}
 use Rattle.query_answerer.proofs.batch.answer_each.Goals as goal
 

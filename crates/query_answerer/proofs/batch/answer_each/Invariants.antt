@@ -1,12 +1,9 @@
 -- `answer_each` meets its contract. The invariant: the questions read are answered, and the stamp is newer than all that stands in the sets.
-use mathlib.Core.Path.{◌≡◌, refl, ◌∙◌}
+use mathlib.Core.Path.{◌≡◌}
 use Prim.Native.Nat.{◌-◌}
-use native.Mathlib.Omega.{arith}
-use borrow.Author.Rules.{rules}
 use lib.ListN.{length}
 use Rattle.query_causes.specs.Query.{Answered}
 use Rattle.query_answerer.specs.Batch.{Ready, Going}
-use Rattle.query_answerer.specs.BatchLaws.{whole-fits, ready_renewed, going_none, going_next, going_full, going_broken}
 use Rattle.query_answerer.proofs.batch.answer_each.Given as goal
 
 abbrev pub invariant-loop-answered : goal.invariant-loop-answered

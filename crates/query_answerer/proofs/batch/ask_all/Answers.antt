@@ -1,6 +1,5 @@
 -- `ask_all` meets its contract: the tables are checked and indexed once, in a fresh array.
 use mathlib.Core.Path.{refl}
-use borrow.Author.Rules.{rules}
 use Rattle.query_answerer.proofs.batch.ask_all.Goals as goal
 
 pub prepare-names-requires : goal.prepare-names-requires

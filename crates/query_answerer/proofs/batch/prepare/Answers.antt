@@ -1,5 +1,4 @@
 -- `prepare` meets its contract: tables that fit are indexed.
-use borrow.Author.Rules.{rules}
 use Rattle.query_answerer.specs.BatchLaws.{named_tables, ready_wrong, ready-zeros, ready-fit}
 use Rattle.query_answerer.proofs.batch.prepare.Goals as goal
 

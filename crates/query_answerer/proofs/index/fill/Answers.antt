@@ -1,11 +1,8 @@
 use mathlib.Core.Bool.{false≢true}
 use mathlib.Core.Path.{◌≡◌, refl}
-use Prim.Native.Nat.{◌≤◌, ◌-◌}
 use native.Mathlib.Omega.{arith}
-use borrow.Author.Rules.{rules}
-use lib.ListN.{length, length-set}
+use lib.ListN.{length-set}
 use Rattle.query_simulation.specs.Transitions.{transition_count}
-use Rattle.query_simulation.specs.TransitionIndex.{Prepared}
 use Rattle.query_simulation.specs.TransitionIndexLaws.{listed-none, listed-some, prepared-entered}
 use Rattle.query_answerer.proofs.index.fill.Goals as goal
 

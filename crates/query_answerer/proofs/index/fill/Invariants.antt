@@ -1,13 +1,8 @@
 -- `fill` meets its contract. The invariant: the index holds the first k transitions, whose states are below the room.
-use mathlib.Core.Bool.{false≢true}
-use mathlib.Core.Path.{◌≡◌, refl}
+use mathlib.Core.Path.{◌≡◌}
 use Prim.Native.Nat.{◌≤◌, ◌-◌}
-use native.Mathlib.Omega.{arith}
-use borrow.Author.Rules.{rules}
-use lib.ListN.{length, length-set}
-use Rattle.query_simulation.specs.Transitions.{transition_count}
+use lib.ListN.{length}
 use Rattle.query_simulation.specs.TransitionIndex.{Prepared}
-use Rattle.query_simulation.specs.TransitionIndexLaws.{listed-none, listed-some, prepared-entered}
 use Rattle.query_answerer.proofs.index.fill.Given as goal
 
 abbrev pub invariant-loop-k : goal.invariant-loop-k

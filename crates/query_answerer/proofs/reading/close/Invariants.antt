@@ -1,10 +1,6 @@
 -- `close` meets its contract. The invariant: the silent transitions of the first i members lead to members.
-use mathlib.Core.Path.{◌≡◌}
-use Prim.Native.Nat.{◌≤◌, ◌+◌, ◌-◌}
-use native.Mathlib.Omega.{arith}
+use Prim.Native.Nat.{◌≤◌, ◌-◌}
 use Rattle.query_simulation.specs.Reading.{Closing}
-use Rattle.query_simulation.specs.ReadingLaws.{closing_start, closing_more}
-use Rattle.query_simulation.specs.TransitionIndexLaws.{indexed-behind}
 use Rattle.query_answerer.proofs.reading.close.Given as goal
 
 abbrev pub invariant-loop-i : goal.invariant-loop-i

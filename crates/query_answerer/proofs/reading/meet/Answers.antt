@@ -1,7 +1,6 @@
 -- `meet` meets its contract: a transition has the label, or not.
 use Prim.Native.Nat.{◌+◌, ◌*◌}
 use native.Mathlib.Omega.{arith}
-use borrow.Author.Rules.{rules}
 use Rattle.query_simulation.specs.TransitionIndexLaws.{met-same, met-other}
 use Rattle.query_answerer.proofs.reading.meet.Goals as goal
 

@@ -1,11 +1,6 @@
-use mathlib.Core.Path.{◌≡◌, refl, ◌∙◌}
-use Prim.Native.Nat.{◌≤◌, ◌+◌, ◌-◌}
+use mathlib.Core.Path.{refl, ◌∙◌}
 use native.Mathlib.Omega.{arith}
-use borrow.Author.Rules.{rules}
-use lib.ListN.{length}
-use Rattle.query_causes.specs.Query.{asked}
 use Rattle.query_simulation.specs.AskedLaws.{asked-letter, read-link, read_asked}
-use Rattle.query_simulation.specs.Reading.{Read}
 use Rattle.query_simulation.specs.ReadingLaws.{read-start, read-steps, read_left, read_dead}
 use Rattle.query_simulation.specs.StatesLaws.{states-none}
 use Rattle.query_simulation.specs.TransitionIndexLaws.{indexed-behind}

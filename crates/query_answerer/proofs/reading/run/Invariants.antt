@@ -1,15 +1,9 @@
 -- `run` meets its contract. The invariant: some state of the set has a path along the links from i on exactly where the head has one along all.
-use mathlib.Core.Path.{◌≡◌, refl, ◌∙◌}
+use mathlib.Core.Path.{◌≡◌}
 use Prim.Native.Nat.{◌≤◌, ◌+◌, ◌-◌}
-use native.Mathlib.Omega.{arith}
-use borrow.Author.Rules.{rules}
 use lib.ListN.{length}
 use Rattle.query_causes.specs.Query.{asked}
-use Rattle.query_simulation.specs.AskedLaws.{asked-letter, read-link, read_asked}
 use Rattle.query_simulation.specs.Reading.{Read}
-use Rattle.query_simulation.specs.ReadingLaws.{read-start, read-steps, read_left, read_dead}
-use Rattle.query_simulation.specs.StatesLaws.{states-none}
-use Rattle.query_simulation.specs.TransitionIndexLaws.{indexed-behind}
 use Rattle.query_answerer.proofs.reading.run.Given as goal
 
 abbrev pub invariant-loop-i : goal.invariant-loop-i

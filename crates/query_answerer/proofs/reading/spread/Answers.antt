@@ -1,7 +1,6 @@
 use mathlib.Core.Path.{◌≡◌}
 use Prim.Native.Nat.{◌+◌, ◌*◌, ◌-◌}
 use native.Mathlib.Omega.{arith}
-use Rattle.query_simulation.specs.TransitionIndex.{Walked}
 use Rattle.query_simulation.specs.TransitionIndexLaws.{indexed-behind, walked_start, walked_more, next-less}
 use Rattle.query_answerer.proofs.reading.spread.Goals as goal
 

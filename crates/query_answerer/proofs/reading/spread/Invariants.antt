@@ -1,9 +1,5 @@
 -- `spread` meets its contract. The invariant: of the list, the transitions from the entry on are done.
-use mathlib.Core.Path.{◌≡◌}
-use Prim.Native.Nat.{◌+◌, ◌*◌, ◌-◌}
-use native.Mathlib.Omega.{arith}
 use Rattle.query_simulation.specs.TransitionIndex.{Walked}
-use Rattle.query_simulation.specs.TransitionIndexLaws.{indexed-behind, walked_start, walked_more, next-less}
 use Rattle.query_answerer.proofs.reading.spread.Given as goal
 
 abbrev pub invariant-loop-at : goal.invariant-loop-at

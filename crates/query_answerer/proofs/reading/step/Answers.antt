@@ -1,7 +1,6 @@
 use mathlib.Core.Path.{◌≡◌, ◌∙◌}
-use Prim.Native.Nat.{◌≤◌, ◌+◌, ◌-◌}
+use Prim.Native.Nat.{◌+◌}
 use native.Mathlib.Omega.{arith}
-use Rattle.query_simulation.specs.Reading.{Gathered}
 use Rattle.query_simulation.specs.ReadingLaws.{gathered-start, same-member, gathered-more, stepped}
 use Rattle.query_simulation.specs.TransitionIndexLaws.{indexed-behind}
 use Rattle.query_answerer.proofs.reading.step.Goals as goal

@@ -1,10 +1,6 @@
 -- `step` meets its contract. The invariant: what the first i states reach by the label has been put into the other list.
-use mathlib.Core.Path.{◌≡◌, ◌∙◌}
-use Prim.Native.Nat.{◌≤◌, ◌+◌, ◌-◌}
-use native.Mathlib.Omega.{arith}
+use Prim.Native.Nat.{◌≤◌, ◌-◌}
 use Rattle.query_simulation.specs.Reading.{Gathered}
-use Rattle.query_simulation.specs.ReadingLaws.{gathered-start, same-member, gathered-more, stepped}
-use Rattle.query_simulation.specs.TransitionIndexLaws.{indexed-behind}
 use Rattle.query_answerer.proofs.reading.step.Given as goal
 
 abbrev pub invariant-loop-i : goal.invariant-loop-i

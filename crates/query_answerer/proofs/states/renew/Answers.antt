@@ -1,7 +1,4 @@
-use Prim.Native.Nat.{◌≤◌, ◌-◌}
 use native.Mathlib.Omega.{arith}
-use borrow.Author.Rules.{rules}
-use Rattle.query_simulation.specs.States.{Cleared}
 use Rattle.query_simulation.specs.StatesLaws.{behind-same, cleared_none, cleared_more, renewed_all}
 use Rattle.query_answerer.proofs.states.renew.Goals as goal
 

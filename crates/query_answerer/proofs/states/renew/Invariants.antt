@@ -1,9 +1,6 @@
 -- `renew` meets its contract. The invariant: the stamps passed are 0.
 use Prim.Native.Nat.{◌≤◌, ◌-◌}
-use native.Mathlib.Omega.{arith}
-use borrow.Author.Rules.{rules}
 use Rattle.query_simulation.specs.States.{Cleared}
-use Rattle.query_simulation.specs.StatesLaws.{behind-same, cleared_none, cleared_more, renewed_all}
 use Rattle.query_answerer.proofs.states.renew.Given as goal
 
 abbrev pub invariant-loop-i : goal.invariant-loop-i

@@ -1,6 +1,5 @@
 -- `ahead` meets its contract: where there is a next link, the hops along it are those by its role.
 use native.Mathlib.Omega.{arith}
-use borrow.Author.Rules.{rules}
 use Rattle.query_binder.specs.HopsLaws.{gains-ahead, ahead_none}
 use Rattle.query_binder.proofs.hops.ahead.Goals as goal
 

@@ -1,7 +1,6 @@
 -- `back` meets its contract: where there is a link before, the hops along it are those by its inverse.
 use Prim.Native.Nat.{◌-◌}
 use native.Mathlib.Omega.{arith}
-use borrow.Author.Rules.{rules}
 use Rattle.roles.specs.RoleLaws.{inv-below}
 use Rattle.query_binder.specs.HopsLaws.{gains-back, back_none, back-past}
 use Rattle.query_binder.proofs.hops.back.Goals as goal

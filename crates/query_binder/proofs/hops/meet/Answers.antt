@@ -1,6 +1,5 @@
 -- `meet` meets its contract: a transition has the label, or not.
 use native.Mathlib.Omega.{arith}
-use borrow.Author.Rules.{rules}
 use Rattle.query_binder.specs.HopsLaws.{met-same, met-other}
 use Rattle.query_binder.proofs.hops.meet.Goals as goal
 

@@ -1,8 +1,6 @@
 use mathlib.Core.Path.{◌≡◌}
 use Prim.Native.Nat.{◌+◌, ◌*◌, ◌-◌, ◌/◌}
 use native.Mathlib.Omega.{arith}
-use borrow.Author.Rules.{rules}
-use Rattle.query_binder.specs.Hops.{Walked}
 use Rattle.query_binder.specs.HopsLaws.{walked_start, next-less, walked_more, walked_all}
 use Rattle.query_binder.proofs.hops.spread.Goals as goal
 

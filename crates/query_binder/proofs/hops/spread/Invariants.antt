@@ -1,10 +1,5 @@
 -- `spread` meets its contract. The invariant: of the list, the transitions from the entry on are done.
-use mathlib.Core.Path.{◌≡◌}
-use Prim.Native.Nat.{◌+◌, ◌*◌, ◌-◌, ◌/◌}
-use native.Mathlib.Omega.{arith}
-use borrow.Author.Rules.{rules}
 use Rattle.query_binder.specs.Hops.{Walked}
-use Rattle.query_binder.specs.HopsLaws.{walked_start, next-less, walked_more, walked_all}
 use Rattle.query_binder.proofs.hops.spread.Given as goal
 
 abbrev pub invariant-loop-at : goal.invariant-loop-at

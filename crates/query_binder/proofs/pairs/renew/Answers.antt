@@ -1,7 +1,4 @@
-use Prim.Native.Nat.{◌*◌, ◌-◌, ◌≤◌}
 use native.Mathlib.Omega.{arith}
-use borrow.Author.Rules.{rules}
-use Rattle.query_binder.specs.PairSets.{Cleared}
 use Rattle.query_binder.specs.PairSetsLaws.{cleared_none, cleared_more, renewed_all}
 use Rattle.query_binder.proofs.pairs.renew.Goals as goal
 

@@ -1,9 +1,6 @@
 -- `renew` meets its contract. The invariant: the stamps passed are 0.
 use Prim.Native.Nat.{◌*◌, ◌-◌, ◌≤◌}
-use native.Mathlib.Omega.{arith}
-use borrow.Author.Rules.{rules}
 use Rattle.query_binder.specs.PairSets.{Cleared}
-use Rattle.query_binder.specs.PairSetsLaws.{cleared_none, cleared_more, renewed_all}
 use Rattle.query_binder.proofs.pairs.renew.Given as goal
 
 abbrev pub invariant-loop-i : goal.invariant-loop-i

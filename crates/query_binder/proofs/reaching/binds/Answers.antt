@@ -1,5 +1,4 @@
 -- `binds` meets its contract: the role tells from where to where the chain is asked.
-use borrow.Author.Rules.{rules}
 use Rattle.query_binder.specs.TrailBatchLaws.{ends-inverse, ends-name}
 use Rattle.query_binder.proofs.reaching.binds.Goals as goal
 

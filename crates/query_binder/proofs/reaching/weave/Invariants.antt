@@ -1,9 +1,6 @@
 -- `weave` meets its contract. The invariant: what a member leads to is led to, and the hops of the first i members lead to members.
-use Prim.Native.Nat.{◌+◌, ◌*◌, ◌-◌}
-use native.Mathlib.Omega.{arith}
-use Rattle.query_binder.specs.PairSetsLaws.{set_none, unused-after}
+use Prim.Native.Nat.{◌*◌, ◌-◌}
 use Rattle.query_binder.specs.PairReach.{Reaching}
-use Rattle.query_binder.specs.PairReachLaws.{reaching-start, reaching-more, reaching-found, reaching_decides}
 use Rattle.query_binder.proofs.reaching.weave.Given as goal
 
 abbrev pub invariant-loop-i : goal.invariant-loop-i

@@ -1,11 +1,9 @@
 use mathlib.Core.Bool.{false≢true}
 use mathlib.Core.Path.{◌≡◌}
-use Prim.Native.Nat.{ℕ, ◌-◌, ◌<◌, ◌≤◌}
+use Prim.Native.Nat.{ℕ, ◌<◌}
 use native.Mathlib.Omega.{arith}
 use borrow.Author.Count.{below_more}
-use borrow.Author.Rules.{rules}
 use lib.ListN.{length, get_or}
-use Rattle.query_binder.specs.SmallTables.{LowHeads}
 use Rattle.query_binder.proofs.small_tables.heads_low.Goals as goal
 
 pub loop-i-preserved : goal.loop-i-preserved

@@ -1,8 +1,6 @@
 -- `is_small` meets its contract: the tests passed say what small tables are.
 use mathlib.Core.Bool.{false≢true}
 use native.Mathlib.Omega.{arith}
-use borrow.Author.Rules.{rules}
-use borrow.Author.Tests.{not-false}
 use Rattle.query_binder.proofs.small_tables.is_small.Goals as goal
 
 pub returns : goal.returns

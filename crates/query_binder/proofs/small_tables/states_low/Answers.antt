@@ -1,11 +1,9 @@
 use mathlib.Core.Bool.{false≢true}
 use mathlib.Core.Path.{◌≡◌}
-use Prim.Native.Nat.{ℕ, ◌-◌, ◌<◌, ◌≤◌}
+use Prim.Native.Nat.{ℕ, ◌<◌}
 use native.Mathlib.Omega.{arith}
 use borrow.Author.Count.{below_more}
-use borrow.Author.Rules.{rules}
 use Rattle.query_simulation.specs.Transitions.{from_at, to_at, transition_count}
-use Rattle.query_binder.specs.SmallTables.{LowStates}
 use Rattle.query_binder.proofs.small_tables.states_low.Goals as goal
 
 pub loop-k-preserved : goal.loop-k-preserved

@@ -1,5 +1,4 @@
 -- `answer` meets its contract: `cause_for` and the length judge the question, and `binds` decides one that is not refused.
-use borrow.Author.Rules.{rules}
 use Rattle.query_binder.specs.PairSetsLaws.{unused-later}
 use Rattle.query_binder.specs.TrailBatchLaws.{asked-refused, asked_long, asked-ground, asked_decided}
 use Rattle.query_binder.proofs.trail_batch.answer.Goals as goal

@@ -1,11 +1,5 @@
-use Prim.Native.Nat.{◌-◌}
 use native.Mathlib.Omega.{arith}
-use borrow.Author.Rules.{rules}
-use lib.ListN.{length}
-use Rattle.query_answerer.specs.Batch.{Going}
 use Rattle.query_answerer.specs.BatchLaws.{whole-fits, going_none, going_next, going_full, going_broken}
-use Rattle.query_binder.specs.PairSets.{Unused}
-use Rattle.query_correctness.specs.TrailQuery.{AnsweredByTrails}
 use Rattle.query_binder.proofs.trail_batch.answer_each.Goals as goal
 
 pub answer-requires-clause-tabled : goal.answer-requires-clause-tabled

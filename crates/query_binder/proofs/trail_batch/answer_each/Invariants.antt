@@ -1,10 +1,7 @@
 -- `answer_each` meets its contract. The invariant: the questions read are answered, and the stamp is newer than all that stands in the set.
 use Prim.Native.Nat.{◌-◌}
-use native.Mathlib.Omega.{arith}
-use borrow.Author.Rules.{rules}
 use lib.ListN.{length}
 use Rattle.query_answerer.specs.Batch.{Going}
-use Rattle.query_answerer.specs.BatchLaws.{whole-fits, going_none, going_next, going_full, going_broken}
 use Rattle.query_binder.specs.PairSets.{Unused}
 use Rattle.query_correctness.specs.TrailQuery.{AnsweredByTrails}
 use Rattle.query_binder.proofs.trail_batch.answer_each.Given as goal

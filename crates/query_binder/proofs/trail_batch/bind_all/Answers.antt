@@ -1,5 +1,4 @@
 -- `bind_all` meets its contract: tables that are small are given as such.
-use borrow.Author.Rules.{rules}
 use Rattle.query_binder.proofs.trail_batch.bind_all.Goals as goal
 
 pub bind_few-requires : goal.bind_few-requires

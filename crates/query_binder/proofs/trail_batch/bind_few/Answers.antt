@@ -1,6 +1,5 @@
 -- `bind_few` meets its contract: small tables are checked and indexed once, in fresh arrays for 64 states.
 use native.Mathlib.Omega.{arith}
-use borrow.Author.Rules.{rules}
 use Rattle.query_binder.specs.PairSetsLaws.{unused-zeros}
 use Rattle.query_binder.specs.TrailBatchLaws.{held-few}
 use Rattle.query_binder.proofs.trail_batch.bind_few.Goals as goal

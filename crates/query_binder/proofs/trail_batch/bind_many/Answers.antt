@@ -1,6 +1,5 @@
 -- `bind_many` meets its contract: tables are checked and indexed once, in fresh arrays for 2,048 states.
 use native.Mathlib.Omega.{arith}
-use borrow.Author.Rules.{rules}
 use Rattle.query_binder.specs.PairSetsLaws.{unused-zeros}
 use Rattle.query_binder.specs.TrailBatchLaws.{held-many}
 use Rattle.query_binder.proofs.trail_batch.bind_many.Goals as goal

@@ -1,6 +1,5 @@
 -- `prepare` meets its contract: tables that fit are indexed.
 use mathlib.Core.Path.{refl, sym, ◌∙◌}
-use borrow.Author.Rules.{rules}
 use Rattle.query_binder.proofs.trail_batch.prepare.Goals as goal
 
 pub fill-requires : goal.fill-requires

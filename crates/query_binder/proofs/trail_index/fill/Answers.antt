@@ -1,10 +1,7 @@
 use mathlib.Core.Path.{◌≡◌, refl}
-use Prim.Native.Nat.{◌-◌, ◌≤◌}
 use native.Mathlib.Omega.{arith}
-use borrow.Author.Rules.{rules}
-use lib.ListN.{length, length-set}
+use lib.ListN.{length-set}
 use Rattle.query_simulation.specs.Transitions.{transition_count}
-use Rattle.query_binder.specs.TrailIndex.{Indexed}
 use Rattle.query_binder.specs.TrailIndexLaws.{slot-below, indexed-next}
 use Rattle.query_binder.proofs.trail_index.fill.Goals as goal
 

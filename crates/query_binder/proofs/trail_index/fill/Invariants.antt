@@ -1,12 +1,8 @@
 -- `fill` meets its contract. The invariant: the first k transitions are in the index.
-use mathlib.Core.Path.{◌≡◌, refl}
+use mathlib.Core.Path.{◌≡◌}
 use Prim.Native.Nat.{◌-◌, ◌≤◌}
-use native.Mathlib.Omega.{arith}
-use borrow.Author.Rules.{rules}
-use lib.ListN.{length, length-set}
-use Rattle.query_simulation.specs.Transitions.{transition_count}
+use lib.ListN.{length}
 use Rattle.query_binder.specs.TrailIndex.{Indexed}
-use Rattle.query_binder.specs.TrailIndexLaws.{slot-below, indexed-next}
 use Rattle.query_binder.proofs.trail_index.fill.Given as goal
 
 abbrev pub invariant-loop-k : goal.invariant-loop-k

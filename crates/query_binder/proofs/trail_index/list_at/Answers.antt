@@ -1,7 +1,6 @@
 -- `list_at` meets its contract: two numbers of 16 bits leave room for the sum.
 use Prim.Native.Nat.{◌+◌, ◌*◌}
 use native.Mathlib.Omega.{arith}
-use borrow.Author.Rules.{rules}
 use Rattle.query_binder.proofs.trail_index.list_at.Goals as goal
 
 pub overflow_add-result : goal.overflow_add-result

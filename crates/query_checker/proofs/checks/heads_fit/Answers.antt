@@ -1,9 +1,5 @@
-use mathlib.Core.Path.{◌≡◌, refl, sym, ◌∙◌}
-use Prim.Native.Nat.{◌≤◌, ◌-◌}
+use mathlib.Core.Path.{sym, ◌∙◌}
 use native.Mathlib.Omega.{arith}
-use borrow.Author.Rules.{rules}
-use lib.ListN.{length, drop}
-use Rattle.query_causes.specs.Query.{heads_fit}
 use Rattle.query_simulation.specs.TablesLaws.{heads-next, heads_not, heads-end}
 use Rattle.query_checker.proofs.checks.heads_fit.Goals as goal
 

@@ -1,11 +1,8 @@
 -- `heads_fit` meets its contract. The invariant: the initial states from i on fit exactly where all do.
-use mathlib.Core.Path.{◌≡◌, refl, sym, ◌∙◌}
+use mathlib.Core.Path.{◌≡◌}
 use Prim.Native.Nat.{◌≤◌, ◌-◌}
-use native.Mathlib.Omega.{arith}
-use borrow.Author.Rules.{rules}
 use lib.ListN.{length, drop}
 use Rattle.query_causes.specs.Query.{heads_fit}
-use Rattle.query_simulation.specs.TablesLaws.{heads-next, heads_not, heads-end}
 use Rattle.query_checker.proofs.checks.heads_fit.Given as goal
 
 abbrev pub invariant-loop-i : goal.invariant-loop-i

@@ -1,10 +1,7 @@
 use mathlib.Core.List.{◌∷◌}
 use mathlib.Core.Path.{ap, sym}
-use Prim.Native.Nat.{ℕ, suc, ◌≤◌, ◌<◌, ◌-◌}
+use Prim.Native.Nat.{suc}
 use native.Mathlib.Omega.{arith}
-use borrow.Author.Count.{below_more}
-use borrow.Author.Rules.{rules}
-use lib.ListN.{length, get_or}
 use Rattle.book_format.specs.DeclaredLaws.{named_not}
 use Rattle.query_simulation.specs.QueryLaws.{named_so}
 use Rattle.refusals.specs.Check.{check}

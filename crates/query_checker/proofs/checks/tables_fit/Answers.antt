@@ -1,8 +1,6 @@
 -- `tables_fit` meets its contract: the tests are the definition's, in its order.
 use mathlib.Core.Path.{ap, sym, ◌∙◌}
 use native.Mathlib.Omega.{arith}
-use borrow.Author.Rules.{rules}
-use Rattle.base.specs.Reflects.{test_failed, test_passed}
 use Rattle.query_simulation.specs.TablesLaws.{heads-none, heads-many, heads_wrong, moves-cut, moves-many, moves-left}
 use Rattle.refusals.specs.Check.{check}
 use Rattle.query_checker.proofs.checks.tables_fit.Goals as goal

@@ -1,10 +1,6 @@
-use mathlib.Core.Path.{◌≡◌, refl, sym, ◌∙◌}
-use Prim.Native.Nat.{◌≤◌, ◌-◌}
+use mathlib.Core.Path.{sym, ◌∙◌}
 use native.Mathlib.Omega.{arith}
-use borrow.Author.Rules.{rules}
-use lib.ListN.{length}
-use Rattle.query_causes.specs.Query.{transitions_in, transitions_fit}
-use Rattle.query_simulation.specs.TablesLaws.{fit_from, moves_next, moves-end, from_not, label_not, to_not}
+use Rattle.query_simulation.specs.TablesLaws.{moves_next, moves-end, from_not, label_not, to_not}
 use Rattle.query_checker.proofs.checks.transitions_fit.Goals as goal
 
 pub returns-then-moves-i-gt2047 : goal.returns-then-moves-i-gt2047

@@ -1,11 +1,9 @@
 -- `transitions_fit` meets its contract. The invariant: the transitions from place i on fit exactly where all do.
-use mathlib.Core.Path.{◌≡◌, refl, sym, ◌∙◌}
+use mathlib.Core.Path.{◌≡◌}
 use Prim.Native.Nat.{◌≤◌, ◌-◌}
-use native.Mathlib.Omega.{arith}
-use borrow.Author.Rules.{rules}
 use lib.ListN.{length}
 use Rattle.query_causes.specs.Query.{transitions_in, transitions_fit}
-use Rattle.query_simulation.specs.TablesLaws.{fit_from, moves_next, moves-end, from_not, label_not, to_not}
+use Rattle.query_simulation.specs.TablesLaws.{fit_from}
 use Rattle.query_checker.proofs.checks.transitions_fit.Given as goal
 
 abbrev pub invariant-loop-i : goal.invariant-loop-i

@@ -1,5 +1,5 @@
 -- Each lays its pieces one after another, and the memo stays true.
-use mathlib.Core.Path.{sym, ap, ◌∙◌}
+use mathlib.Core.Path.{ap, ◌∙◌}
 use native.Mathlib.Omega.{arith}
 use Rattle.roles.specs.Role.{name}
 use Rattle.roles.specs.RoleLaws.{name-inv, inv-below}

@@ -1,5 +1,4 @@
 -- `count` meets its contract: what laying the roots says of their sizes.
-use borrow.Author.Rules.{rules}
 use Rattle.table_builder.proofs.lay.count.Goals as goal
 
 pub roots-requires : goal.roots-requires

@@ -3,7 +3,6 @@ use mathlib.Core.Path.{ap, ◌∙◌}
 use native.Mathlib.Omega.{arith}
 use Rattle.rule_index.specs.RuleIndex.{first_in}
 use Rattle.roles.specs.RoleLaws.{name_below}
-use borrow.Author.Rules.{rules}
 use Rattle.table_builder.proofs.lay.first_of.Goals as goal
 
 pub number-requires : goal.number-requires

@@ -3,7 +3,6 @@ use Prim.Native.Nat.{◌<◌}
 use native.Mathlib.Omega.{arith}
 use Rattle.roles.specs.RoleLaws.{name_below}
 use Rattle.rule_index.specs.RuleIndexLaws.{flagged}
-use borrow.Author.Rules.{rules}
 use Rattle.table_builder.proofs.lay.has_kind.Goals as goal
 use Rattle.table_builder.proofs.lay.has_kind.Goals.{After-name}
 

@@ -1,7 +1,6 @@
 -- `inner_count` meets its contract: the kind tells whether there is a row.
 use mathlib.Core.Path.{◌∙◌}
 use Rattle.table_builder.specs.RowLaws.{count_none, count-some}
-use borrow.Author.Rules.{rules}
 use Rattle.table_builder.proofs.lay.inner_count.Goals as goal
 
 pub returns-then-number-lt2 : goal.returns-then-number-lt2

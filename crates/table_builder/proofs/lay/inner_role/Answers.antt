@@ -4,7 +4,6 @@ use Prim.Native.Nat.{◌-◌}
 use native.Mathlib.Omega.{arith}
 use Rattle.roles.specs.Role.{inv}
 use Rattle.table_builder.specs.RowLaws.{inner-straight, inner-mirrored}
-use borrow.Author.Rules.{rules}
 use Rattle.table_builder.proofs.lay.inner_role.Goals as goal
 
 pub overflow_cast-number : goal.overflow_cast-number

@@ -1,6 +1,5 @@
 -- `put` meets its contract: outside the table a write changes nothing.
 use mathlib.Core.Path.{sym}
-use borrow.Author.Rules.{rules}
 use lib.Seq.{set_out}
 use Rattle.table_builder.proofs.lay.put.Goals as goal
 

@@ -1,10 +1,9 @@
 use mathlib.Core.Path.{refl, sym}
-use Prim.Native.Nat.{ℕ, ◌-◌}
+use Prim.Native.Nat.{ℕ}
 use native.Mathlib.Omega.{arith}
 use lib.ListN.{get_or-replicate}
-use Rattle.table_builder.specs.RootsLaws.{Rooting, rooting_start, rooting_next, rooting_end}
+use Rattle.table_builder.specs.RootsLaws.{rooting_start, rooting_next, rooting_end}
 use Rattle.table_builder.specs.MemoLaws.{memo-none}
-use Rattle.table_builder.specs.Memo.{Memo}
 use borrow.Author.Rules.{rules}
 use Rattle.table_builder.proofs.lay.roots.Goals as goal
 

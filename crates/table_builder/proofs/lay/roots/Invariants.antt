@@ -1,12 +1,7 @@
 -- `roots` meets its contract: each turn lays the root of one name and leaves those of the names after it.
-use mathlib.Core.Path.{refl, sym}
-use Prim.Native.Nat.{ℕ, ◌-◌}
-use native.Mathlib.Omega.{arith}
-use lib.ListN.{get_or-replicate}
-use Rattle.table_builder.specs.RootsLaws.{Rooting, rooting_start, rooting_next, rooting_end}
-use Rattle.table_builder.specs.MemoLaws.{memo-none}
+use Prim.Native.Nat.{◌-◌}
+use Rattle.table_builder.specs.RootsLaws.{Rooting}
 use Rattle.table_builder.specs.Memo.{Memo}
-use borrow.Author.Rules.{rules}
 use Rattle.table_builder.proofs.lay.roots.Given as goal
 
 abbrev pub invariant-loop-x : goal.invariant-loop-x

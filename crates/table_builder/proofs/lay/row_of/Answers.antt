@@ -2,7 +2,6 @@
 use mathlib.Core.Path.{sym, ◌∙◌}
 use native.Mathlib.Omega.{arith}
 use Rattle.table_builder.specs.RowLaws.{found-straight, found-mirrored}
-use borrow.Author.Rules.{rules}
 use Rattle.table_builder.proofs.lay.row_of.Goals as goal
 
 pub returns-then-number-role : goal.returns-then-number-role

@@ -1,7 +1,6 @@
 -- `again` meets its contract: past a limit, counted alone, or counted and copied.
 use mathlib.Core.Path.{refl}
 use native.Mathlib.Omega.{arith}
-use borrow.Author.Rules.{rules}
 use Rattle.table_builder.specs.Memo.{Sound}
 use Rattle.table_builder.specs.AgainLaws.{held_kept, again_over, again_full, again_short, again_copied, again_before, again_near, again_numbers}
 use Rattle.table_builder.proofs.memo.again.Goals as goal

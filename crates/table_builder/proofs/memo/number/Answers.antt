@@ -1,7 +1,6 @@
 -- `number` meets its contract: the number stands there, and a number of a table is below 65,536.
 use mathlib.Core.Path.{refl}
 use native.Mathlib.Omega.{arith}
-use borrow.Author.Rules.{rules}
 use Rattle.table_builder.proofs.memo.number.Goals as goal
 
 pub overflow_cast-result : goal.overflow_cast-result

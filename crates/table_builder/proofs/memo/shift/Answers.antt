@@ -1,9 +1,7 @@
 use mathlib.Core.Path.{refl}
-use Prim.Native.Nat.{◌-◌}
 use native.Mathlib.Omega.{arith}
-use borrow.Author.Rules.{rules}
 use lib.ListN.{length-set}
-use Rattle.table_builder.specs.ShiftLaws.{Shifting, shifting_start, shifting_near, shifting_next, shifting_end}
+use Rattle.table_builder.specs.ShiftLaws.{shifting_start, shifting_near, shifting_next, shifting_end}
 use Rattle.table_builder.proofs.memo.shift.Goals as goal
 
 pub overflow_add-from : goal.overflow_add-from

@@ -1,10 +1,6 @@
 -- `shift` meets its contract. The invariant: the transitions before j are copied.
-use mathlib.Core.Path.{refl}
 use Prim.Native.Nat.{◌-◌}
-use native.Mathlib.Omega.{arith}
-use borrow.Author.Rules.{rules}
-use lib.ListN.{length-set}
-use Rattle.table_builder.specs.ShiftLaws.{Shifting, shifting_start, shifting_near, shifting_next, shifting_end}
+use Rattle.table_builder.specs.ShiftLaws.{Shifting}
 use Rattle.table_builder.proofs.memo.shift.Given as goal
 
 abbrev pub invariant-loop-j : goal.invariant-loop-j
