@@ -7,7 +7,7 @@ use line_writer::first_line;
 use table_builder::Outcome;
 
 // The tables of a book as one build has written them, with how many of their numbers count.
-#[derive(Drop)]
+#[derive(Clone, Copy)]
 pub struct Tables {
     pub heads: [u16; 64],
     pub moves: [u16; 15360],
