@@ -4,7 +4,7 @@ ghost use Rattle.std.specs.Prelude.{◌<◌};
 use byte_parts::byte;
 
 // A chain: its links, and how many they are; none where a step is impossible.
-#[derive(Drop)]
+#[derive(Clone, Copy)]
 struct Links {
     roles: [u8; 16],
     size: usize,
