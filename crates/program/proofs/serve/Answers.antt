@@ -38,8 +38,8 @@ loop-turns-preserved g c =
 pub returns : goal.returns
 returns g c =
     elim c.loop-turns-test.branch [
-      then-loop-turns-test+else-number-lt18446744073709551615 w ↦
+      | then-loop-turns-test+else-number-lt18446744073709551615 w ↦
           serving_exhausted c.loop-turns.invariant.serving (inr (search rules))
-    | else-loop-turns-test w ↦
+      | else-loop-turns-test w ↦
           serving_exhausted c.loop-turns.invariant.serving (inl (search rules))
     ]
