@@ -1,6 +1,6 @@
 // The program: answers questions from standard input about the book in book.rlb.
 #![tactic(auto)]
 
-fn main() {
-    program::run(b"book.rlb");
+fn main(rt: HostRuntime) {
+    program::run(&rt, b"book.rlb");
 }

@@ -1,7 +1,8 @@
 // Questions about a book in two blocks, answered by the calls that the program makes.
 use byte_parts::{byte, part};
-use libc::STDOUT_FILENO;
 use transcript_writer::Tables;
+
+const STDOUT: i32 = 1;
 
 // What is left of the input, and the number of the next question.
 #[derive(Clone, Copy)]
@@ -16,7 +17,7 @@ pub(crate) fn try_blocks(book: &[u8], questions: &[u8], border: usize, size: usi
     let mut line = [0u8; 72];
     let opening = transcript_writer::open(book, &mut line);
     let tables = opening.tables;
-    io::write_all(STDOUT_FILENO, part(&line, 0, opening.written));
+    io::write_all(STDOUT, part(&line, 0, opening.written));
     let none = Left {
         bytes: [0u8; 64],
         size: 0,
@@ -39,7 +40,7 @@ fn answer(tables: Tables, before: Left, text: &[u8]) -> Left {
         end,
         &mut out,
     );
-    io::write_all(STDOUT_FILENO, part(&out, 0, progress.written));
+    io::write_all(STDOUT, part(&out, 0, progress.written));
     Left {
         bytes: input,
         size: progress.kept,
@@ -52,7 +53,7 @@ fn end(left: Left) {
     let mut line = [0u8; 64];
     let bytes = left.bytes;
     let size = transcript_writer::last_line(left.number, part(&bytes, 0, left.size), &mut line);
-    io::write_all(STDOUT_FILENO, part(&line, 0, size));
+    io::write_all(STDOUT, part(&line, 0, size));
 }
 
 // The buffer with the bytes of a text from a place on.

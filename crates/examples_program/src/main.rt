@@ -6,8 +6,9 @@
 mod blocks;
 
 use blocks::try_blocks;
-use libc::STDOUT_FILENO;
 use program::Stop;
+
+const STDOUT: i32 = 1;
 
 const HALL: [u8; 20] = *b"RLB\x01\0\x04\x03\0\0\x02\0\0\x02\x02\0\x02\x06\x02\x02\x04";
 
@@ -21,19 +22,19 @@ const SERVES: [u8; 13] = *b"RLB\x01\0\x02\x01\0\x02\x03\0\x01\0";
 // serves binds covers, though it is not derived from it, and so with both inverse; covers does not bind serves, nor serves serves covers.
 const BINDING: [u8; 17] = *b"\x02\x01\0\0\x03\x01\0\x01\0\x01\0\x02\x02\x02\0\0\0";
 
-fn main() {
-    try_book(b"missing file: ", b"missing.rlb");
-    try_book(b"overlong file: ", b"overlong.rlb");
-    try_book(b"no order: ", b"cycle.rlb");
+fn main(rt: HostRuntime) {
+    try_book(&rt, b"missing file: ", b"missing.rlb");
+    try_book(&rt, b"overlong file: ", b"overlong.rlb");
+    try_book(&rt, b"no order: ", b"cycle.rlb");
     try_places();
     try_binding();
-    try_book(b"standard input: ", b"hall.rlb");
+    try_book(&rt, b"standard input: ", b"hall.rlb");
 }
 
 // Runs the program on a file, and says why it stopped.
-fn try_book(text: &[u8], path: &[u8]) {
-    io::write_all(STDOUT_FILENO, text);
-    match program::run(path) {
+fn try_book(rt: &HostRuntime, text: &[u8], path: &[u8]) {
+    io::write_all(STDOUT, text);
+    match program::run(rt, path) {
         Stop::Refused => say(b"stopped, refused\n"),
         Stop::Ended => say(b"stopped, ended\n"),
         Stop::Unwritten => say(b"stopped, unwritten\n"),
@@ -42,7 +43,7 @@ fn try_book(text: &[u8], path: &[u8]) {
 }
 
 fn say(text: &[u8]) {
-    io::write_all(STDOUT_FILENO, text);
+    io::write_all(STDOUT, text);
 }
 
 // For every place of the questions: input that ends there, and two blocks whose border falls there.
@@ -58,7 +59,7 @@ fn try_places() {
 // Says which place is tried, and tries the first `size` bytes of the questions in two blocks.
 fn try_place(text: &[u8], place: usize, border: usize, size: usize) {
     say(text);
-    io::print_decimal(STDOUT_FILENO, place as u64);
+    io::print_decimal(STDOUT, place as u64);
     say(b": ");
     try_blocks(&HALL, &QUESTIONS, border, size);
 }

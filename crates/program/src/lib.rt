@@ -9,7 +9,9 @@ ghost use Rattle.query_correctness.specs.TrailQuery.{AnsweredByTrails};
 ghost use Rattle.transcript_writer.specs.Opened.{heads_in, moves_in};
 ghost use Rattle.program.specs.Ran.{Ran, Served, Reads, Ends};
 
-use libc::{STDIN_FILENO, STDOUT_FILENO};
+use std::fs::File;
+use std::io::Read;
+use std::rt::Files;
 use transcript_writer::Tables;
 
 const LONGEST: usize = 65538;
@@ -29,45 +31,61 @@ pub enum Stop {
 
 // Reads the book of that name and answers the questions about it. No promise can say what system calls read and write; this one says that what was read
 // as a book was refused or accepted, and that the blocks of input that were read were answered as documents 01 and 02 lay down.
-pub fn run(path: &[u8]) -> Stop
+pub fn run<R: Files + Input + Print>(rt: &R, path: &[u8]) -> Stop
     ensures { Ran result }
 {
     // Longer than any book, so that a file that is too long is seen to be.
     let mut book = [0u8; 4096];
     let mut line = [0u8; 72];
-    let size = read_book(path, &mut book);
+    let size = read_book(rt, path, &mut book);
     let opening = transcript_writer::open(&book[..size], &mut line);
     let written = opening.written;
-    if !io::write_all(STDOUT_FILENO, &line[..written]) {
+    if rt.write_all(&line[..written]).is_err() {
         return Stop::Unwritten;
     }
     if !opening.accepted {
         return Stop::Refused;
     }
     let tables = opening.tables;
-    serve(tables)
+    serve(rt, tables)
 }
 
-// Reads the book's file to the front of the buffer; answers its length, or 0 where it cannot be opened. No book fills the buffer, so one that does is
-// seen to be too long.
-fn read_book(path: &[u8], book: &mut [u8]) -> usize
+// Reads the book's file to the front of the buffer; answers its length, or 0 where it cannot be opened, as where its name is no text. No book fills the
+// buffer, so one that does is seen to be too long.
+fn read_book<R: Files>(rt: &R, path: &[u8], book: &mut [u8]) -> usize
     requires { 2568 < length book.old }
     ensures prefix_len { IsPrefixLen result book.new }
     ensures upper_bound { result ≤ 2568 → result < length book.new }
 {
-    let fd = os::open_read(path);
-    if fd < 0 {
+    let Ok(name) = str::from_utf8(path) else {
         return 0;
+    };
+    let Ok(mut file) = File::open(rt, name) else {
+        return 0;
+    };
+    read_full(&mut file, book)
+}
+
+// Reads to the front of a buffer until it is full or nothing more is read; answers how many bytes.
+fn read_full<R: Read>(reader: &mut R, buffer: &mut [u8]) -> usize
+    ensures { IsPrefixLen result buffer.new }
+{
+    let mut done = 0;
+    while done < buffer.len() {
+        let got = read_once(reader, &mut buffer[done..]);
+        if got == 0 {
+            break;
+        }
+        done += got;
     }
-    let size = io::read_full(fd, book);
-    libc::close(fd);
-    size
+    done
 }
 
 // Answers questions until the input ends. A proved loop has to end, so this one counts its turns down from a number that no run uses up.
-fn serve(tables: Tables) -> Stop
+fn serve<R: Input + Print>(rt: &R, tables: Tables) -> Stop
     ensures { Served (AnsweredByTrails (heads_in tables) (moves_in tables)) result }
 {
+    let mut reader = rt.reader();
     let mut input = question_buffer();
     let mut out = [0u8; 65536];
     let mut number = 0u64;
@@ -75,16 +93,16 @@ fn serve(tables: Tables) -> Stop
     let mut left = false;
     let mut turns = u64::MAX;
     while 0 < turns && number < u64::MAX {
-        let end = read_more(&mut input, kept, left);
+        let end = read_more(&mut reader, &mut input, kept, left);
         if ended(kept, end, left) {
-            return finish(number, kept, &input);
+            return finish(rt, number, kept, &input);
         }
         let progress = transcript_writer::answer_block(tables, number, &mut input, end, &mut out);
         number = progress.number;
         kept = progress.kept;
         left = progress.left;
         let written = progress.written;
-        if !io::write_all(STDOUT_FILENO, &out[..written]) {
+        if rt.write_all(&out[..written]).is_err() {
             return Stop::Unwritten;
         }
         turns -= 1;
@@ -101,14 +119,14 @@ fn question_buffer() -> [u8; LONGEST]
 
 // Reads once, after the bytes that are kept, which stay; answers where the bytes in the buffer end. Where a whole question is left nothing is read, since
 // whoever asked it may wait for its answer. What is no whole question leaves room to read.
-fn read_more(input: &mut [u8], kept: usize, left: bool) -> usize
+fn read_more<R: Read>(reader: &mut R, input: &mut [u8], kept: usize, left: bool) -> usize
     requires { (65538 ≤ length input.old) × (kept ≤ length input.old) × (left ≡ is_whole (take kept input.old)) }
     ensures { Reads left kept input.old input.new result }
 {
     if left {
         return kept;
     }
-    kept + read_once(&mut input[kept..])
+    kept + read_once(reader, &mut input[kept..])
 }
 
 // Whether the input has ended: no whole question was left, and nothing was read.
@@ -121,23 +139,22 @@ fn ended(kept: usize, end: usize, left: bool) -> bool
     end <= kept
 }
 
-// Reads once to the front of a buffer; answers how many bytes, or 0 where the input has ended.
-fn read_once(buffer: &mut [u8]) -> usize
+// Reads once to the front of a buffer, as much as is there; answers how many bytes, or 0 where the input has ended or the read fails.
+fn read_once<R: Read>(reader: &mut R, buffer: &mut [u8]) -> usize
     requires { 0 < length buffer.old }
     ensures { result ≤ length buffer.new }
 {
-    let got = libc::read(STDIN_FILENO, buffer);
-    io::count(got, buffer)
+    reader.read(buffer).unwrap_or(0)
 }
 
 // Writes the last line, of the bytes that are kept when the input has ended.
-fn finish(number: u64, kept: usize, input: &[u8]) -> Stop
+fn finish<R: Print>(rt: &R, number: u64, kept: usize, input: &[u8]) -> Stop
     requires { kept ≤ length input.now }
     ensures { (result ≡ Stop.Ended) ⊎ (result ≡ Stop.Unwritten) }
 {
     let mut line = [0u8; 64];
     let size = transcript_writer::last_line(number, &input[..kept], &mut line);
-    if !io::write_all(STDOUT_FILENO, &line[..size]) {
+    if rt.write_all(&line[..size]).is_err() {
         return Stop::Unwritten;
     }
     Stop::Ended
