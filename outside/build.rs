@@ -26,7 +26,7 @@ fn link_archive() {
     println!("cargo::rerun-if-changed={}", archive.display());
     let Ok(archive) = archive.canonicalize() else {
         println!("cargo::error=the archive {} is missing", archive.display());
-        println!("cargo::error=make it with `rt staticlib rabbitsteel` in the repository's root,");
+        println!("cargo::error=make it with `tools/archive` in the repository's root,");
         println!("cargo::error=or set {LIB_DIR} to the folder that holds {ARCHIVE};");
         println!("cargo::error=`cargo test --release --no-default-features` tries the plain engine without it");
         return;

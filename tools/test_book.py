@@ -47,7 +47,7 @@ HALL_BYTES = bytes.fromhex("524C420100040300 00020000 02020002 06020204")
 HALL_BARE = "names part sits let due\n\npart part -> part\npart sits -> sits\nsits let -> due\n"
 
 ENGINE = Path(os.environ.get(engine.VARIABLE) or engine.BUILT).resolve()
-NO_ENGINE = f"no engine at {ENGINE}, so no question can be put to it: run `rt check engine` first"
+NO_ENGINE = f"no engine at {ENGINE}, so no question can be put to it: run `tools/answers` first"
 
 ARCHIVE = Path(os.environ.get(archive.VARIABLE) or archive.REPOSITORY / "target" / "staticlib").resolve()
 
@@ -934,7 +934,7 @@ class Why(InFolder):
         command = [TOOLS / "book", "why", "hall.txt", "due: due"]
         told = subprocess.run(command, env=environment, capture_output=True, text=True, check=False)
         self.assertEqual((told.returncode, told.stdout), (1, ""))
-        self.assertIn("/none/librabbitsteel.a: no archive here; make it with `rt staticlib rabbitsteel`", told.stderr)
+        self.assertIn("/none/librabbitsteel.a: no archive here; make it with `tools/archive`", told.stderr)
 
     def test_only_what_the_checker_accepts_is_shown(self) -> None:
         book = read_text(HALL_TEXT)
@@ -1098,7 +1098,7 @@ class EngineRun(InFolder):
         self.write("hall.txt", HALL_TEXT)
         told = run("ask", "hall.txt", "due: due", "--engine", "/none/engine")
         self.assertEqual((told.status, told.output), (1, ""))
-        self.assertIn("/none/engine: no engine here; build it with `rt check engine`", told.errors)
+        self.assertIn("/none/engine: no engine here; build it with `tools/answers`", told.errors)
 
     def test_environment_names_it(self) -> None:
         with mock.patch.dict(os.environ, {engine.VARIABLE: "/none/other"}):

@@ -1,5 +1,5 @@
 //! Links the proved archive `librabbitsteel.a`, from the folder that `RABBITSTEEL_LIB_DIR` names or
-//! else from where `rt staticlib` writes it.
+//! else from where `tools/archive` writes it.
 
 use std::env;
 use std::path::{Path, PathBuf};
@@ -13,7 +13,7 @@ fn main() {
     println!("cargo::rerun-if-changed={}", archive.display());
     if !archive.is_file() {
         println!("cargo::error=there is no archive {}", archive.display());
-        println!("cargo::error=make it with `tools/library` or `rt staticlib rabbitsteel` in the repository, or name its folder in {VARIABLE}");
+        println!("cargo::error=make it with `tools/library` or `tools/archive` in the repository, or name its folder in {VARIABLE}");
         return;
     }
     println!("cargo::rustc-link-search=native={}", folder.display());

@@ -14,7 +14,7 @@ const ENGINE: &str = "RABBITSTEEL_ENGINE";
 pub fn find() -> Result<PathBuf, String> {
     let usual = || Path::new(env!("CARGO_MANIFEST_DIR")).join("../target/bin/engine");
     let path = std::env::var_os(ENGINE).map_or_else(usual, PathBuf::from);
-    let make = "make it with `rt check engine` in the repository's root, or name it in";
+    let make = "make it with `tools/answers` in the repository's root, or name it in";
     path.canonicalize()
         .map_err(|_| format!("there is no engine at {}: {make} {ENGINE}", path.display()))
 }

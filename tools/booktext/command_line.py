@@ -60,7 +60,7 @@ and its rule. Where the chain binds and is not derived it says so, and shows the
 same for a walk to and fro along the chain. After a no come a network's links,
 by name: it obeys the rules and holds the chain, from place 0 on, without the
 asked link. The proved archive gives it, and writes and checks the steps;
-`rt staticlib rabbitsteel` makes it. Of several derivations one is shown."""
+`tools/archive` makes it. Of several derivations one is shown."""
 FROM_OWL = """\
 Turns the role axioms of an OWL 2 ontology in functional-style syntax into
 text. An axiom that a book cannot hold is refused by name."""

@@ -33,10 +33,10 @@ class Transcript(NamedTuple):
 
 
 def find(option: str | None) -> Path:
-    """Where the program is: the option, else the environment, else where the check builds it."""
+    """Where the program is: the option, else the environment, else where tools/answers builds it."""
     path = Path(option or os.environ.get(VARIABLE) or BUILT).resolve()
     if not path.is_file():
-        raise Fault(f"{path}: no engine here; build it with `rt check engine`, or name it with --engine or {VARIABLE}")
+        raise Fault(f"{path}: no engine here; build it with `tools/answers`, or name it with --engine or {VARIABLE}")
     return path
 
 

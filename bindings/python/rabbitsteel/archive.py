@@ -16,7 +16,7 @@ from pathlib import Path
 VARIABLE = "RABBITSTEEL_LIB_DIR"
 REPOSITORY = Path(__file__).resolve().parents[3]
 LINKED = REPOSITORY / "target" / "python"
-MAKE = f"make it with `rt staticlib rabbitsteel` in {REPOSITORY}, or name its folder in {VARIABLE}"
+MAKE = f"make it with `tools/archive` in {REPOSITORY}, or name its folder in {VARIABLE}"
 
 
 class NoArchive(Exception):

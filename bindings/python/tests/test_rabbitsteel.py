@@ -362,7 +362,7 @@ class Archive(unittest.TestCase):
 
     def test_no_archive(self) -> None:
         told = self.failure({archive.VARIABLE: "/none"})
-        self.assertIn("/none/librabbitsteel.a: no archive here; make it with `rt staticlib rabbitsteel` in ", told)
+        self.assertIn("/none/librabbitsteel.a: no archive here; make it with `tools/archive` in ", told)
 
     def test_no_archive_at_all(self) -> None:
         other = Path(self.folder, "librabbitsteel.a")

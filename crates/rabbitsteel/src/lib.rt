@@ -1,5 +1,5 @@
-// The calls for programs in C and Rust, as a static library. Each returns the number of the cause that refuses its input, or 0, and stores in the
-// numbers lent to it what it tells: counts or an answer, or what document 01 gives beside the cause.
+// The calls for programs in C and Rust, which `rabbitsteel_c` exports. Each returns the number of the cause that refuses its input, or 0, and stores
+// in the numbers lent to it what it tells: counts or an answer, or what document 01 gives beside the cause.
 #![tactic(auto)]
 
 ghost use Rattle.book_format.specs.Format.{read};
@@ -15,8 +15,7 @@ use call_numbers::{
 use table_limits::names_of;
 
 // Causes 1 to 7. Passed: how many names and how many rules the book has. Refused: the value beside the cause, and 0.
-#[unsafe(no_mangle)]
-pub extern "C" fn rabbitsteel_read(book: &[u8], first: &mut u64, second: &mut u64) -> u64
+pub fn rabbitsteel_read(book: &[u8], first: &mut u64, second: &mut u64) -> u64
     ensures { Tells (map_result book_counts (read book.now)) result first.new second.new 0 }
 {
     let told = tell_verdict(book_reader::read(book), 0);
@@ -27,8 +26,7 @@ pub extern "C" fn rabbitsteel_read(book: &[u8], first: &mut u64, second: &mut u6
 
 // Causes 1 to 8. Passed: how many names and how many rules the book has, and its depth; the first levels, one to a name, are written, as many as
 // are lent. Refused: the value beside the cause, and 0 twice; the levels are left as they were.
-#[unsafe(no_mangle)]
-pub extern "C" fn rabbitsteel_order(
+pub fn rabbitsteel_order(
     book: &[u8],
     levels: &mut [u8],
     first: &mut u64,
@@ -51,8 +49,7 @@ pub extern "C" fn rabbitsteel_order(
 
 // Causes 1 to 11, and the tables. Built: how many states and how many transitions they have, and the depth of the book. Refused: the value beside
 // the cause, 0 and 0; heads and moves are left as they were.
-#[unsafe(no_mangle)]
-pub extern "C" fn rabbitsteel_build(
+pub fn rabbitsteel_build(
     book: &[u8],
     heads: &mut [u16],
     moves: &mut [u16],
@@ -71,8 +68,7 @@ pub extern "C" fn rabbitsteel_build(
 }
 
 // Causes 12 to 14, and the answer of any tables: 1 for yes, 0 for no. Refused: 0.
-#[unsafe(no_mangle)]
-pub extern "C" fn rabbitsteel_ask(
+pub fn rabbitsteel_ask(
     heads: &[u16],
     moves: &[u16],
     role: u8,
@@ -88,8 +84,7 @@ pub extern "C" fn rabbitsteel_ask(
 
 // Builds and asks: causes 1 to 14, and the answer by derivation, 1 for yes, 0 for no. Refused: the value beside the cause, and the tables keep
 // what they held.
-#[unsafe(no_mangle)]
-pub extern "C" fn rabbitsteel_derived(
+pub fn rabbitsteel_derived(
     book: &[u8],
     heads: &mut [u16],
     moves: &mut [u16],
@@ -108,8 +103,7 @@ pub extern "C" fn rabbitsteel_derived(
 // Writes a derivation of the chain from the role by the rules of the book: steps of four bytes. Causes 1 to 8 and 13 to 16. Derived: 1, and how many steps are
 // written. Not derived: 0 and 0. Refused: the value beside the cause, and 0. The bytes behind the steps are left as they were, and all of them where no
 // steps are written.
-#[unsafe(no_mangle)]
-pub extern "C" fn rabbitsteel_write_derivation(
+pub fn rabbitsteel_write_derivation(
     book: &[u8],
     role: u8,
     chain: &[u8],
@@ -128,8 +122,7 @@ pub extern "C" fn rabbitsteel_write_derivation(
 
 // Whether the steps are a derivation of the chain from the role by the rules of the book: 1 for yes, 0 for no. Causes 1 to 8, 13 to 15 and 17. Refused: the value
 // beside the cause.
-#[unsafe(no_mangle)]
-pub extern "C" fn rabbitsteel_check_derivation(
+pub fn rabbitsteel_check_derivation(
     book: &[u8],
     role: u8,
     chain: &[u8],
@@ -146,8 +139,7 @@ pub extern "C" fn rabbitsteel_check_derivation(
 // Whether the chain binds the role by the rules of the book: 1 for yes, 0 for no. Causes 1 to 8 and 13 to 16. Refused: the value beside the cause. No: the network
 // of the links that the rules force on the chain is written, a byte for each name, from-place and to-place in this order. The bytes behind it are left as
 // they were, and all of them where none is written.
-#[unsafe(no_mangle)]
-pub extern "C" fn rabbitsteel_binds(
+pub fn rabbitsteel_binds(
     book: &[u8],
     role: u8,
     chain: &[u8],

@@ -66,7 +66,7 @@ fn key((right, left): &Axiom) -> u64 {
 
 #[cfg(not(by_rule))]
 pub fn rows(report: &mut crate::report::Report) {
-    report.note("No rows beside the search that goes rule by rule: make its archive with `rt staticlib read_by_rule`, then `touch build.rs`.");
+    report.note("No rows beside the search that goes rule by rule: make its archive with `tools/archive read_by_rule`, then `touch build.rs`.");
 }
 
 #[cfg(by_rule)]
