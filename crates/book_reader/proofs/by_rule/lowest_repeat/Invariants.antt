@@ -8,7 +8,7 @@ use Rattle.book_reader.specs.RepeatSearchLaws.{Met}
 use Rattle.book_reader.proofs.by_rule.lowest_repeat.Given as goal
 
 abbrev pub invariant-loop-later : goal.invariant-loop-later
-invariant-loop-later l =     (l.later ≤ l.rules) × ((l.cursor.at ≡ rule_place l.book l.later) × (((n : ℕ) → Searching l.book n l.rules l.later) × Met 251 l.book l.keys l.index l.later))
+invariant-loop-later l = (l.later ≤ l.rules) × ((l.cursor.at ≡ rule_place l.book l.later) × (((n : ℕ) → Searching l.book n l.rules l.later) × Met 251 l.book l.keys l.index l.later))
 
 abbrev pub decreases-loop-later : goal.decreases-loop-later
 decreases-loop-later l = l.rules - l.later

@@ -6,7 +6,7 @@ use Rattle.network_writer.specs.RowBytes.{row_bytes, Puts}
 use Rattle.network_writer.proofs.bytes.put_row.Given as goal
 
 abbrev pub invariant-loop-to : goal.invariant-loop-to
-invariant-loop-to l =     (l.to ≤ l.places) × Puts l.initial.network l.start (row_bytes l.set l.to) l.network (l.start + l.to) × ((b : ℕ) → has l.rest b ≡ has l.set (l.to + b))
+invariant-loop-to l = (l.to ≤ l.places) × Puts l.initial.network l.start (row_bytes l.set l.to) l.network (l.start + l.to) × ((b : ℕ) → has l.rest b ≡ has l.set (l.to + b))
 
 abbrev pub decreases-loop-to : goal.decreases-loop-to
 decreases-loop-to l = l.places - l.to

@@ -6,7 +6,7 @@ use Rattle.network_writer.specs.RowBytes.{row_bytes, Puts}
 use Rattle.network_writer.proofs.bytes.put_rows.Given as goal
 
 abbrev pub invariant-loop-from : goal.invariant-loop-from
-invariant-loop-from l =     (l.from ≤ l.places) × Puts l.initial.network l.start (joined l.from (λ a. row_bytes (get_or l.rows (l.front + a) 0) l.places)) l.network l.at
+invariant-loop-from l = (l.from ≤ l.places) × Puts l.initial.network l.start (joined l.from (λ a. row_bytes (get_or l.rows (l.front + a) 0) l.places)) l.network l.at
 
 abbrev pub decreases-loop-from : goal.decreases-loop-from
 decreases-loop-from l = l.places - l.from

@@ -27,10 +27,13 @@ fragment-rows-own-requires t c =
 
 pub fragment-rows-all-requires : goal.fragment-rows-all-requires
 fragment-rows-all-requires t c =
-    let mirrors = mirrors_by c.requires c.has_kind-symmetric.ensures c.first_of-first.ensures c.mirror_of-mirror.ensures in
-    (omega (arith, ap (level_in c.args.index.now) (ap name c.inverse.ensures ∙ name-inv c.args.role)),
-      (ready-laid c.requires c.rows-own.ensures.small c.rows-own.ensures.memo _ (rw c.inverse.ensures (inv-below _ 64 c.requires.role)),
-        (λ ρs i. rw c.inverse.ensures (mirrors.here ρs i), c.if-initial-gt2046.false)))
+    let mirrors = mirrors_by c.requires c.has_kind-symmetric.ensures c.first_of-first.ensures c.mirror_of-mirror.ensures in (
+      omega (arith, ap (level_in c.args.index.now) (ap name c.inverse.ensures ∙ name-inv c.args.role)),
+      (
+        ready-laid c.requires c.rows-own.ensures.small c.rows-own.ensures.memo _ (rw c.inverse.ensures (inv-below _ 64 c.requires.role)),
+        (λ ρs i. rw c.inverse.ensures (mirrors.here ρs i), c.if-initial-gt2046.false),
+      ),
+    )
 
 pub fragment-keep-requires-clause-state_le_state : goal.fragment-keep-requires-clause-state_le_state
 fragment-keep-requires-clause-state_le_state t c =
@@ -49,9 +52,10 @@ row-returns-then-row-eq0 t c = row-none c.row_of-row.ensures c.if-row-eq0.true c
 
 pub row-fragment-at-requires : goal.row-fragment-at-requires
 row-fragment-at-requires t c =
-    let turn = c.loop-j.invariant in
-    (omega (arith, c.inner_role.ensures.lower (level_in c.args.index.now (name c.args.role)) c.row_of-row.ensures.inner),
-      ready-added c.requires.ready (rowing_added turn (omega (arith, turn.small.state)) c.add-at.ensures) c.add-at.auto.moves turn.memo _ c.inner_role.ensures.small)
+    let turn = c.loop-j.invariant in (
+      omega (arith, c.inner_role.ensures.lower (level_in c.args.index.now (name c.args.role)) c.row_of-row.ensures.inner),
+      ready-added c.requires.ready (rowing_added turn (omega (arith, turn.small.state)) c.add-at.ensures) c.add-at.auto.moves turn.memo _ c.inner_role.ensures.small,
+    )
 
 pub row-loop-j-preserved : goal.row-loop-j-preserved
 row-loop-j-preserved t c =

@@ -18,14 +18,14 @@ returns-then-end-ge60000-clause-small c = record { state = omega (arith, c.if-ne
 
 pub returns-then-end-ge60000-clause-laid : goal.returns-then-end-ge60000-clause-laid
 returns-then-end-ge60000-clause-laid c = λ z at k.
-          again_full (held_kept c.args.memo.now c.args.r k c.number.ensures.0 refl c.number-size.ensures.0 refl) c.if-next-gt2048.false c.if-end-ge60000.true
+    again_full (held_kept c.args.memo.now c.args.r k c.number.ensures.0 refl c.number-size.ensures.0 refl) c.if-next-gt2048.false c.if-end-ge60000.true
 
 pub returns-then-moves-end-clause-small : goal.returns-then-moves-end-clause-small
 returns-then-moves-end-clause-small c = record { state = omega (arith, c.if-next-gt2048.false); count = omega (arith, c.if-end-ge60000.false) }
 
 pub returns-then-moves-end-clause-laid : goal.returns-then-moves-end-clause-laid
 returns-then-moves-end-clause-laid c = λ z at k.
-          again_short (held_kept c.args.memo.now c.args.r k c.number.ensures.0 refl c.number-size.ensures.0 refl) c.if-next-gt2048.false c.if-moves-end.true
+    again_short (held_kept c.args.memo.now c.args.r k c.number.ensures.0 refl c.number-size.ensures.0 refl) c.if-next-gt2048.false c.if-moves-end.true
 
 pub overflow_sub-by : goal.overflow_sub-by
 overflow_sub-by c =
@@ -47,5 +47,5 @@ returns-clause-small c = record { state = omega (arith, c.if-next-gt2048.false);
 
 pub returns-clause-laid : goal.returns-clause-laid
 returns-clause-laid c = λ z at h.
-          let k = held_kept c.args.memo.now c.args.r h c.number.ensures.0 c.number-3.ensures.0 c.number-size.ensures.0 c.number-2.ensures.0 in
-          again_copied k c.if-next-gt2048.false (c.shift.ensures _ (again_numbers k (c.requires.small_2.1, omega (arith, c.if-end-ge60000.false)) c.if-moves-end.false))
+    let k = held_kept c.args.memo.now c.args.r h c.number.ensures.0 c.number-3.ensures.0 c.number-size.ensures.0 c.number-2.ensures.0 in
+    again_copied k c.if-next-gt2048.false (c.shift.ensures _ (again_numbers k (c.requires.small_2.1, omega (arith, c.if-end-ge60000.false)) c.if-moves-end.false))

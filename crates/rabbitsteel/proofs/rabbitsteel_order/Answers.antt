@@ -1,0 +1,7 @@
+-- `rabbitsteel_order` meets its contract: what is told of the order check's answer is told of the judgement that it equals.
+use borrow.Author.Rules.{rules}
+use Rattle.rabbitsteel.specs.CallsLaws.{tells-order}
+use Rattle.rabbitsteel.proofs.rabbitsteel_order.Goals as goal
+
+pub returns : goal.returns
+returns c = tells-order c.order-ordering.ensures c.names_of.ensures c.copy.ensures c.tell_verdict-told.ensures
