@@ -1,4 +1,5 @@
 -- `decode` meets its contract: each check's answer settles one test of the definition.
+use mathlib.Core.List.{[]}
 use mathlib.Core.Path.{sym, ap, ◌∙◌}
 use borrow.Author.Rules.{rules}
 use lib.ListN.{drop}
