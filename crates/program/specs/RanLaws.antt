@@ -1,13 +1,14 @@
 -- How reading, answering and writing block after block gives what the program says of its run.
-use Rattle.std.specs.Prelude.{Bool, true, false, List, [], ◌∷◌, ◌++◌, ◌⊎◌, ◌≡◌, refl, ℕ, ◌+◌, ◌-◌, ◌<◌, ◌≤◌, length, take, drop}
+use Rattle.std.specs.Prelude.{Bool, true, false, List, [], ◌∷◌, ◌++◌, ◌⊎◌, ◌≡◌, refl, ℕ, zero, suc, ◌+◌, ◌-◌, ◌<◌, ◌≤◌, leb, length, get_or, take, drop}
 use Rattle.std.proofs.Common.{true≢false, append_assoc, append-nil, inl, inr, sym, ap, ◌∙◌, arith, leb-true, leb-false, take-append-drop, length-append, length-drop, take-take, length-take-le}
+use borrow.Rule.Slice.PartMut.{put_mid, mid_of, take_put, same_len_mid}
 use Rattle.roles.specs.Role.{Chain}
 use Rattle.roles.specs.Rule.{Book}
 use Rattle.base.specs.Result.{Result}
 use Rattle.base.specs.Result.Result.{refused, ok}
 use Rattle.book_causes.specs.Accepted.{built}
 use Rattle.book_causes.specs.AcceptedLaws.{building}
-use Rattle.query_causes.specs.Input.{is_whole}
+use Rattle.query_causes.specs.Input.{Broken, is_whole}
 use Rattle.query_correctness.specs.TrailQuery.{AnsweredByTrails}
 use Rattle.query_correctness.specs.BindingReply.{DecidedByBinding}
 use Rattle.transcript_lines.specs.Block.{Block, Blocks, joined}
@@ -21,9 +22,49 @@ use Rattle.transcript_writer.specs.Opened.{heads_in, moves_in, is_ok, Opens}
 use Rattle.transcript_writer.specs.SessionLaws.{opened-blocks}
 use Rattle.program.specs.declared.Stop.{Stop}
 use Rattle.program.specs.declared.Stop.TheVariants.{Refused, Ended, Unwritten, Exhausted}
-use Rattle.program.specs.Ran.{Serving, Served, Ran, Reads}
+use Rattle.program.specs.Ran.{Serving, Served, Ran, Reads, Ends}
 use Rattle.program.specs.Ran.Served.{ended, exhausted, unwritten}
 use Rattle.program.specs.Ran.Ran.{refuses, opened}
+
+-- what is kept is no whole question, and the longest question has 65,538 bytes
+small-front : (n : ℕ) (q : List ℕ) → ((i : ℕ) → get_or q i 0 < 256) → (i : ℕ) → get_or (take n q) i 0 < 256
+small-front zero q s i = omega arith
+small-front (suc n) [] s i = omega arith
+small-front (suc n) (x ∷ q) s zero = s 0
+small-front (suc n) (x ∷ q) s (suc i) = small-front n q (λ j. s (suc j)) i
+
+pub kept-short : (kept : ℕ) (q : List ℕ) → ((i : ℕ) → get_or q i 0 < 256) → kept ≤ length q → is_whole (take kept q) ≡ false → kept < 65538
+kept-short kept q s h e =
+    let b : Broken (take kept q) = leb-false _ _ e in
+    omega (arith, b, length-take-le kept q h, small-front kept q s 1, small-front kept q s 2)
+
+pub some-room : (a : ℕ) (q : List ℕ) → a < length q → 0 < length (take (length q - a) (drop a q))
+some-room a q h = rw (length-take-le (length q - a) (drop a q) (omega (arith, length-drop a q))) (omega (arith, h))
+
+-- the bytes that are read go behind those that are kept
+pub reads_none : {left : Bool} {kept : ℕ} {q : List ℕ} → kept ≤ length q → Reads left kept q q kept
+reads_none h = record { same = refl; front = refl; after = omega arith; within = h; still = λ e. refl }
+
+pub reads-behind : {left : Bool} (kept : ℕ) (q part : List ℕ) (count : ℕ) → left ≡ false → kept ≤ length q
+    → length part ≡ length (mid_of kept (length q - kept) q) → count ≤ length part → Reads left kept q (put_mid kept (length q - kept) q part) (kept + count)
+reads-behind kept q part count empty h same l =
+    let long : length (put_mid kept (length q - kept) q part) ≡ length q = same_len_mid kept (length q - kept) q part same in
+    let size : length (mid_of kept (length q - kept) q) ≡ length q - kept =
+    length-take-le (length q - kept) (drop kept q) (omega (arith, length-drop kept q)) in
+    record {
+      same = long;
+      front = take_put kept (length q - kept) q part h;
+      after = omega arith;
+      within = rw long (omega (arith, same, size, l, h));
+      still = λ e. absurd (true≢false (sym e ∙ empty));
+    }
+
+-- whether the input has ended, by each test
+pub ends-left : {kept end : ℕ} {left : Bool} → left ≡ true → Ends kept end left false
+ends-left e = record { over = λ h. absurd (true≢false (sym h)); more = λ h. inl e }
+
+pub ends_read : (kept end : ℕ) {left : Bool} → left ≡ false → Ends kept end left (leb end kept)
+ends_read kept end e = record { over = λ h. (e, leb-true end kept h); more = λ h. inr (leb-false end kept h) }
 
 -- the bytes of one block more
 joined-after : (blocks : List (List ℕ)) (block : List ℕ) → length (joined (blocks ++ (block ∷ []))) ≡ length (joined blocks) + length block
