@@ -1,5 +1,4 @@
 -- `rabbitsteel_ask` meets its contract: what is told of the answer is told of the tables that gave it.
-use borrow.Author.Rules.{rules}
 use Rattle.rabbitsteel.specs.CallsLaws.{tells-answer}
 use Rattle.rabbitsteel.proofs.rabbitsteel_ask.Goals as goal
 

@@ -1,5 +1,4 @@
 -- `rabbitsteel_binds` meets its contract: what is told of the answer is told of the call that gave it.
-use borrow.Author.Rules.{rules}
 use Rattle.rabbitsteel.specs.CallsLaws.{tells-binding}
 use Rattle.rabbitsteel.proofs.rabbitsteel_binds.Goals as goal
 

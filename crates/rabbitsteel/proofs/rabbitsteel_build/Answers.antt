@@ -1,5 +1,4 @@
 -- `rabbitsteel_build` meets its contract: what is told of the outcome is told of the build that gave it.
-use borrow.Author.Rules.{rules}
 use Rattle.rabbitsteel.specs.CallsLaws.{tells-build}
 use Rattle.rabbitsteel.proofs.rabbitsteel_build.Goals as goal
 

@@ -1,5 +1,4 @@
 -- `rabbitsteel_check_derivation` meets its contract: what is told of the answer is told of what checking the steps gives.
-use borrow.Author.Rules.{rules}
 use Rattle.rabbitsteel.specs.CallsLaws.{tells-checked}
 use Rattle.rabbitsteel.proofs.rabbitsteel_check_derivation.Goals as goal
 

@@ -1,5 +1,4 @@
 -- `rabbitsteel_derived` meets its contract: what is told of the reply is told of the call that gave it.
-use borrow.Author.Rules.{rules}
 use Rattle.rabbitsteel.specs.CallsLaws.{tells-derived}
 use Rattle.rabbitsteel.proofs.rabbitsteel_derived.Goals as goal
 

@@ -1,5 +1,4 @@
 -- `rabbitsteel_write_derivation` meets its contract: what is told of the derivation is told of the call that wrote it.
-use borrow.Author.Rules.{rules}
 use Rattle.rabbitsteel.specs.CallsLaws.{tells-derivation}
 use Rattle.rabbitsteel.proofs.rabbitsteel_write_derivation.Goals as goal
 

@@ -1,5 +1,4 @@
 -- `rabbitsteel_read_by_rule` meets its contract: what is told of the verdict is told of the reading that it equals.
-use borrow.Author.Rules.{rules}
 use Rattle.book_decoder.specs.Verdict.{header_of}
 use Rattle.book_format.specs.Format.{read}
 use Rattle.call_numbers.specs.Tells.{header_counts}

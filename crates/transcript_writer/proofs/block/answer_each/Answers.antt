@@ -1,11 +1,10 @@
 use mathlib.Core.Path.{◌≡◌, sym}
-use Prim.Native.Nat.{ℕ, ◌+◌, ◌-◌, ◌*◌}
+use Prim.Native.Nat.{ℕ}
 use native.Mathlib.Omega.{arith}
 use borrow.Author.Rules.{rules}
-use lib.ListN.{length, take, replicate, length-replicate}
+use lib.ListN.{length, replicate, length-replicate}
 use lib.Seq.{length-take-le}
 use Rattle.query_correctness.specs.TrailQuery.{AnsweredByTrails}
-use Rattle.transcript_writer.specs.Advances.{Advanced}
 use Rattle.transcript_writer.specs.AdvancesLaws.{least-counts, triples_count, take-least, take_triples, advanced_none, advances, advances_as, batch_few, batch_fits, batch_within, batch_less, batch_written, advanced_next}
 use Rattle.transcript_writer.proofs.block.answer_each.Goals as goal
 

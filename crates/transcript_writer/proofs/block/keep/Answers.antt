@@ -1,6 +1,5 @@
-use Prim.Native.Nat.{◌-◌}
 use borrow.Author.Rules.{rules}
-use Rattle.transcript_writer.specs.KeptLaws.{Moved, moved_none, moved-next, moved_all}
+use Rattle.transcript_writer.specs.KeptLaws.{moved_none, moved-next, moved_all}
 use Rattle.transcript_writer.proofs.block.keep.Goals as goal
 
 pub loop-i-init : goal.loop-i-init

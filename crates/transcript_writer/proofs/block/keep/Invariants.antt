@@ -1,7 +1,6 @@
 -- `keep` meets its contract: a byte that is still to be moved is where it was.
 use Prim.Native.Nat.{◌-◌}
-use borrow.Author.Rules.{rules}
-use Rattle.transcript_writer.specs.KeptLaws.{Moved, moved_none, moved-next, moved_all}
+use Rattle.transcript_writer.specs.KeptLaws.{Moved}
 use Rattle.transcript_writer.proofs.block.keep.Given as goal
 
 abbrev pub invariant-loop-i : goal.invariant-loop-i

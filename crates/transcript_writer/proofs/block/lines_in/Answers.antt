@@ -1,6 +1,5 @@
 -- `lines_in` meets its contract: the least of what there is room and there are numbers for.
 use borrow.Author.Rules.{rules}
-use borrow.Author.Tests.{not-true, not-false}
 use Rattle.transcript_writer.specs.AdvancesLaws.{lines_in, no-lines_in}
 use Rattle.transcript_writer.proofs.block.lines_in.Goals as goal
 

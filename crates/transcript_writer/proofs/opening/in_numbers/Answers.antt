@@ -1,7 +1,6 @@
 -- `in_numbers` meets its contract: the counts, or the refusal and empty tables.
 use mathlib.Core.Path.{refl, ap₂}
 use Prim.Native.Nat.{ℕ}
-use borrow.Author.Rules.{rules}
 use Rattle.base.specs.Result.Result.{refused}
 use Rattle.transcript_writer.specs.Opened.{reported}
 use Rattle.transcript_writer.specs.OpenedLaws.{reported_as}

@@ -1,5 +1,4 @@
 -- `open` meets its contract: the tables that a build leaves, with its counts.
-use borrow.Author.Rules.{rules}
 use Prim.Native.Nat.{ℕ}
 use lib.ListN.{length-replicate}
 use Rattle.transcript_writer.specs.OpenedLaws.{opened}
