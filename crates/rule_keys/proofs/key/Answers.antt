@@ -13,7 +13,7 @@ use Rattle.rule_keys.proofs.key.Goals.{After-is_inverse}
 
 -- the code of the left side or of its inverse takes 58 bits
 below : (c : After-is_inverse) (t : Bool) → code (turn t c.args.left.now) + 3 ≤ 2 ^ 58
-below c = code-turn c.args.left.now (λ k p. omega (arith, c.type_inv.left k)) c.if-left-gt8.false
+below c = code-turn c.args.left.now (λ k p. omega (arith, c.type_inv.left k)) (omega arith)
 
 pub overflow_mul-result : goal.overflow_mul-result
 overflow_mul-result c = omega (arith, c.inverse_code.ensures, below (goal.at.overflow_mul-result c).After-is_inverse true)
@@ -26,7 +26,7 @@ overflow_add-result c = let earlier = (goal.at.overflow_add-result c).After-is_i
 
 pub returns-then-is_inverse : goal.returns-then-is_inverse
 returns-then-is_inverse c =
-    rw (c.inverse_code.ensures, c.name.ensures) (keyed-some _ _ true c.if-left-gt8.false (sym c.is_inverse.ensures ∙ c.if-is_inverse.true))
+    rw (c.inverse_code.ensures, c.name.ensures) (keyed-some _ _ true (omega arith) (sym c.is_inverse.ensures ∙ c.if-is_inverse.true))
 
 pub overflow_mul-result-2 : goal.overflow_mul-result-2
 overflow_mul-result-2 c = omega (arith, c.plain_code.ensures, below (goal.at.overflow_mul-result-2 c).After-is_inverse false)
@@ -36,4 +36,4 @@ overflow_add-result-2 c = let earlier = (goal.at.overflow_add-result-2 c).After-
 
 pub returns : goal.returns
 returns c =
-    rw (c.plain_code.ensures, c.name-2.ensures) (keyed-some _ _ false c.if-left-gt8.false (sym c.is_inverse.ensures ∙ c.if-is_inverse.false))
+    rw (c.plain_code.ensures, c.name-2.ensures) (keyed-some _ _ false (omega arith) (sym c.is_inverse.ensures ∙ c.if-is_inverse.false))

@@ -1,7 +1,8 @@
-use mathlib.Core.Path.{◌≡◌, ◌∙◌}
+use mathlib.Core.Path.{◌≡◌}
 use Prim.Native.Nat.{◌<◌}
 use native.Mathlib.Omega.{arith}
 use borrow.Author.Rules.{rules}
+use Rattle.roles.specs.Role.{name}
 use Rattle.book_decoder.specs.VerdictLaws.{headed}
 use Rattle.book_format.specs.Place.{rule_place}
 use Rattle.book_reader.specs.EnteredLaws.{entered-none}
@@ -10,7 +11,7 @@ use Rattle.book_reader.specs.ShortLaws.{bounded}
 use Rattle.book_reader.specs.KeyedAtLaws.{turn-whole, turn-short, turn-key, turn-next, turn_target, turn-name}
 use Rattle.book_reader.specs.RepeatSearchLaws.{Met, met_next, lowest_judged}
 use Rattle.book_reader.proofs.by_target.lowest_repeat.Goals as goal
-use Rattle.book_reader.proofs.by_target.lowest_repeat.Goals.{After-loop-rule, After-name-target}
+use Rattle.book_reader.proofs.by_target.lowest_repeat.Goals.{After-keyed_rule-keyed, After-loop-rule}
 
 pub loop-rule-init : goal.loop-rule-init
 unfolding rule_place
@@ -29,14 +30,14 @@ keyed_rule-keyed-requires-clause-short c =
     let place = c.loop-rule.invariant.1.0 in turn-short reading bounds place c.loop-rule-test.true
 
 pub enter-requires-clause-list_value : goal.enter-requires-clause-list_value
-enter-requires-clause-list_value c = c.name-target.ensures ∙ turn_target (headed c.requires) (bounded c.requires) c.loop-rule.invariant.1.0 c.loop-rule-test.true c.keyed_rule-keyed.ensures
+enter-requires-clause-list_value c = cc (turn_target (headed c.requires) (bounded c.requires) c.loop-rule.invariant.1.0 c.loop-rule-test.true c.keyed_rule-keyed.ensures)
 
-small : (c : After-name-target) → c.name-target.result < 64
-small c =
-    rw c.name-target.ensures (turn-name (headed c.requires) (bounded c.requires) c.loop-rule.invariant.1.0 c.loop-rule-test.true c.keyed_rule-keyed.ensures)
+-- the name on the right is one of 64
+named : (c : After-keyed_rule-keyed) → name c.keyed_rule-keyed.result.right < 64
+named c = turn-name (headed c.requires) (bounded c.requires) c.loop-rule.invariant.1.0 c.loop-rule-test.true c.keyed_rule-keyed.ensures
 
 pub enter-requires-clause-list_lt_lists : goal.enter-requires-clause-list_lt_lists
-enter-requires-clause-list_lt_lists c = small (goal.at.enter-requires-clause-list_lt_lists c).After-name-target
+enter-requires-clause-list_lt_lists c = omega (arith, named (goal.at.enter-requires-clause-list_lt_lists c).After-keyed_rule-keyed)
 
 pub enter-requires-clause-count_bound : goal.enter-requires-clause-count_bound
 enter-requires-clause-count_bound c = omega (arith, (bounded c.requires).few)
@@ -52,7 +53,7 @@ loop-rule-preserved c =
         turn-next reading bounds place inside c.keyed_rule-keyed.ensures,
         (
           met_next reading bounds c.loop-rule.invariant.1.1.0 inside (turn-key reading bounds place inside c.keyed_rule-keyed.ensures) c.enter.ensures.keys c.enter.ensures.lists,
-          sized_next c.loop-rule.invariant.1.1.1 c.name-target.result (small (goal.at.loop-rule-preserved c).After-name-target),
+          sized_next c.loop-rule.invariant.1.1.1 _ (omega (arith, named (goal.at.loop-rule-preserved c).After-keyed_rule-keyed)),
         ),
       ),
     )
@@ -68,7 +69,7 @@ pub returns : goal.returns
 returns c = lowest_judged (headed c.requires) (bounded c.requires) (all_met (goal.at.returns c).After-loop-rule).keyed c.over_names.ensures
 
 pub bounds-sizes-target : goal.bounds-sizes-target
-bounds-sizes-target c = small (goal.at.bounds-sizes-target c).After-name-target
+bounds-sizes-target c = omega (arith, named (goal.at.bounds-sizes-target c).After-keyed_rule-keyed)
 
 pub bounds-sizes-target-in-loop-rule : goal.bounds-sizes-target-in-loop-rule
-bounds-sizes-target-in-loop-rule c = small (goal.at.bounds-sizes-target-in-loop-rule c).After-name-target
+bounds-sizes-target-in-loop-rule c = omega (arith, named (goal.at.bounds-sizes-target-in-loop-rule c).After-keyed_rule-keyed)

@@ -14,7 +14,4 @@ pub put-requires-clause-state_lt_room : goal.put-requires-clause-state_lt_room
 put-requires-clause-state_lt_room c = (c.requires.active.indexed.fit c.args.k c.requires.k_bound).to_fits
 
 pub returns : goal.returns
-returns c = met-same _ _ _ (omega (arith, c.if-moves-place.false)) c.put.ensures
-
-pub returns-then-moves-place : goal.returns-then-moves-place
-returns-then-moves-place c = met-other _ _ _ (λ e. omega (arith, e, c.if-moves-place.true)) c.requires.active.good
+returns c = met-same _ _ _ (omega arith) c.put.ensures

@@ -1,4 +1,5 @@
 -- `answer` meets its contract: `cause_for` and the length judge the question, and `binds` decides one that is not refused.
+use native.Mathlib.Omega.{arith}
 use Rattle.query_binder.specs.PairSetsLaws.{unused-later}
 use Rattle.query_binder.specs.TrailBatchLaws.{asked-refused, asked_long, asked-ground, asked_decided}
 use Rattle.query_binder.proofs.trail_batch.answer.Goals as goal
@@ -17,18 +18,18 @@ returns-then-chain-gt16-clause-unused_2 c = unused-later c.requires.unused
 
 pub binds-requires-clause-grounded : goal.binds-requires-clause-grounded
 binds-requires-clause-grounded c =
-    let g = asked-ground c.requires.tabled c.args.input.now c.args.read c.requires.size_value.0 c.requires.size_value.1 c.byte-role.ensures c.links-chain.ensures c.cause_for-cause.ensures c.if-cause-ne0.false c.if-chain-gt16.false c.head.ensures in g.0
+    let g = asked-ground c.requires.tabled c.args.input.now c.args.read c.requires.size_value.0 c.requires.size_value.1 c.byte-role.ensures c.links-chain.ensures c.cause_for-cause.ensures c.if-cause-ne0.false (omega arith) c.head.ensures in g.0
 
 pub binds-requires-clause-head_bound : goal.binds-requires-clause-head_bound
 binds-requires-clause-head_bound c =
-    let g = asked-ground c.requires.tabled c.args.input.now c.args.read c.requires.size_value.0 c.requires.size_value.1 c.byte-role.ensures c.links-chain.ensures c.cause_for-cause.ensures c.if-cause-ne0.false c.if-chain-gt16.false c.head.ensures in g.1
+    let g = asked-ground c.requires.tabled c.args.input.now c.args.read c.requires.size_value.0 c.requires.size_value.1 c.byte-role.ensures c.links-chain.ensures c.cause_for-cause.ensures c.if-cause-ne0.false (omega arith) c.head.ensures in g.1
 
 pub binds-requires-clause-unused : goal.binds-requires-clause-unused
 binds-requires-clause-unused c =
-    let g = asked-ground c.requires.tabled c.args.input.now c.args.read c.requires.size_value.0 c.requires.size_value.1 c.byte-role.ensures c.links-chain.ensures c.cause_for-cause.ensures c.if-cause-ne0.false c.if-chain-gt16.false c.head.ensures in c.requires.unused
+    let g = asked-ground c.requires.tabled c.args.input.now c.args.read c.requires.size_value.0 c.requires.size_value.1 c.byte-role.ensures c.links-chain.ensures c.cause_for-cause.ensures c.if-cause-ne0.false (omega arith) c.head.ensures in c.requires.unused
 
 pub returns-clause-answered_at : goal.returns-clause-answered_at
-returns-clause-answered_at c = asked_decided c.requires.tabled c.args.input.now c.args.read c.requires.size_value.0 c.requires.size_value.1 c.byte-role.ensures c.links-chain.ensures c.cause_for-cause.ensures c.if-cause-ne0.false c.if-chain-gt16.false c.head.ensures c.binds.ensures.reflects
+returns-clause-answered_at c = asked_decided c.requires.tabled c.args.input.now c.args.read c.requires.size_value.0 c.requires.size_value.1 c.byte-role.ensures c.links-chain.ensures c.cause_for-cause.ensures c.if-cause-ne0.false (omega arith) c.head.ensures c.binds.ensures.reflects
 
 pub returns-clause-unused_2 : goal.returns-clause-unused_2
 returns-clause-unused_2 c = c.binds.ensures.unused_2

@@ -14,7 +14,7 @@ pub fragment-returns-then-initial-gt2046 : goal.fragment-returns-then-initial-gt
 fragment-returns-then-initial-gt2046 t c = over-laid c.requires c.if-initial-gt2046.true
 
 pub fragment-again-requires-clause-by_index : goal.fragment-again-requires-clause-by_index
-fragment-again-requires-clause-by_index t c = again_held c.requires c.if-memo-r-gt0.true
+fragment-again-requires-clause-by_index t c = again_held c.requires (omega arith)
 
 pub fragment-returns-then-memo-r-gt0 : goal.fragment-returns-then-memo-r-gt0
 fragment-returns-then-memo-r-gt0 t c = again_laid c.requires c.if-memo-r-gt0.true c.again.ensures.small c.again.ensures.laid c.again.auto.moves

@@ -23,10 +23,6 @@ pub overflow_add-begins : goal.overflow_add-begins
 overflow_add-begins c =
     omega (arith, c.number.ensures.0, (shifting_near c.loop-j.invariant c.requires.size_bound.0 c.loop-j-test.true c.requires.by_index).0)
 
-pub overflow_add-ends : goal.overflow_add-ends
-overflow_add-ends c =
-    omega (arith, c.number-in-loop-j.ensures.0, (shifting_near c.loop-j.invariant c.requires.size_bound.0 c.loop-j-test.true c.requires.by_index).1)
-
 pub overflow_cast-moves : goal.overflow_cast-moves
 overflow_cast-moves c =
     omega (arith, c.number.ensures.0, (shifting_near c.loop-j.invariant c.requires.size_bound.0 c.loop-j-test.true c.requires.by_index).0)
@@ -36,14 +32,14 @@ bounds-moves-to-in-loop-j c = simp length-set (omega (arith, c.loop-j-test.true,
 
 pub overflow_cast-moves-in-loop-j : goal.overflow_cast-moves-in-loop-j
 overflow_cast-moves-in-loop-j c =
-    omega (arith, c.number-in-loop-j.ensures.0, (shifting_near c.loop-j.invariant c.requires.size_bound.0 c.loop-j-test.true c.requires.by_index).1)
+    omega (arith, (shifting_near c.loop-j.invariant c.requires.size_bound.0 c.loop-j-test.true c.requires.by_index).1)
 
 pub bounds-moves-to-in-loop-j-2 : goal.bounds-moves-to-in-loop-j-2
 bounds-moves-to-in-loop-j-2 c = simp length-set (omega (arith, c.loop-j-test.true, c.requires.size_bound.1, c.loop-j.invariant.same))
 
 pub loop-j-preserved : goal.loop-j-preserved
 loop-j-preserved c =
-    shifting_next c.loop-j.invariant c.requires.size_bound.0 c.loop-j-test.true (omega (arith, c.number.ensures.0)) refl (omega (arith, c.number-in-loop-j.ensures.0))
+    shifting_next c.loop-j.invariant c.requires.size_bound.0 c.loop-j-test.true (omega (arith, c.number.ensures.0)) refl (omega arith)
 
 pub returns : goal.returns
 returns c = shifting_end c.loop-j.invariant c.loop-j-test.false
