@@ -32,14 +32,14 @@ pub returns-then-rules-rule-clause-left : goal.returns-then-rules-rule-clause-le
 returns-then-rules-rule-clause-left c = (left-none _ _ (counted (goal.at.returns-then-rules-rule-clause-left c).In-WellFormed ∙ le-ltb _ _ c.if-rules-rule.true)).1
 
 pub seek-requires : goal.seek-requires
-seek-requires c = counted (goal.at.seek-requires c).In-WellFormed ∙ lt-ltb _ _ c.if-rules-rule.false
+seek-requires c = counted (goal.at.seek-requires c).In-WellFormed ∙ lt-ltb c.args.rule c.in-WellFormed.header.rules (omega arith)
 
 -- the step yields the rule
 turn : (c : After-step) → Yields c.args.book.now c.args.rule c.step.result
 turn c = yields c.seek.ensures c.step.ensures
 
 there : (c : After-seek) → has_rule (decode c.args.book.now) c.args.rule ≡ true
-there c = counted (goal.at.After-seek c).In-WellFormed ∙ lt-ltb _ _ c.if-rules-rule.false
+there c = counted (goal.at.After-seek c).In-WellFormed ∙ lt-ltb c.args.rule c.in-WellFormed.header.rules (omega arith)
 
 pub returns-in_default-step-clause-part : goal.returns-in_default-step-clause-part
 returns-in_default-step-clause-part c = absurd ((turn (goal.at.returns-in_default-step-clause-part c).After-step).some (has_rule-whole _ _ (there (goal.at.returns-in_default-step-clause-part c).After-seek) _ (omega arith)) c.in_default-step.is)
