@@ -22,7 +22,7 @@ rt_lines() {
             checked=${line##*=}
             ;;
         'logic=proved '*) [ "${checked:-0}" = 0 ] || printf 'rt: %s proved\n' "$crate" ;;
-        'rt: chose '* | 'rt: running '* | 'rt: nothing has changed '* | 'rt: '*': begins with what a check kept '*) ;;
+        'rt: chose '* | 'rt: running '* | 'rt: rt '* | 'rt: nothing has changed '* | 'rt: '*': begins with what a check kept '*) ;;
         'rt: '*) printf '%s\n' "$line" ;;
         esac
     done
