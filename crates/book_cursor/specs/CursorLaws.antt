@@ -1,5 +1,5 @@
 -- What the cursor's step gives, by what stands at its place.
-use Rattle.std.specs.Prelude.{Bool, true, false, cond, List, ◌∷◌, ◌≡◌, refl, ℕ, ◌+◌, ◌-◌, ◌≤◌, length, take, drop}
+use Rattle.std.specs.Prelude.{Bool, true, false, cond, List, ◌∷◌, ◌≡◌, refl, ℕ, ◌+◌, ◌-◌, ◌≤◌, length, take, drop, None, Option}
 use Rattle.std.proofs.Common.{true≢false, sym, ap, ◌∙◌, subst, arith, length-take}
 use Rattle.std.proofs.Math.Nat.{add-sub_cancel_left}
 use Rattle.roles.specs.Rule.{Rule}
@@ -9,15 +9,13 @@ use Rattle.book_format.specs.Place.{next_at, whole_at, rule_at, rule_place}
 use Rattle.book_format.specs.FormatLaws.{Whole, whole_true, whole_false, whole_facts, place-next}
 use Rattle.book_cursor.specs.declared.Cursor.{Cursor}
 use Rattle.book_cursor.specs.declared.Entry.{Entry}
-use Rattle.book_cursor.specs.declared.Step.{Step}
-use Rattle.book_cursor.specs.declared.Step.TheVariants.{Rule as Rule-and-next, Malformed}
-use Rattle.book_cursor.specs.Cursor.{entry_at, entry_rule, step_at}
+use Rattle.book_cursor.specs.Cursor.{entry_at, entry_rule, rule_and_next, step_at}
 
 module _ (s : List ℕ) (at : ℕ) where
-  pub step-malformed : (Whole s at → ⊥) → Malformed ≡ step_at s at
+  pub step-malformed : (Whole s at → ⊥) → None ≡ step_at s at
   step-malformed h = rw (whole_false s at h) refl
 
-  pub step-whole : Whole s at → Rule-and-next (entry_at s at) (record { at = next_at s at }) ≡ step_at s at
+  pub step-whole : Whole s at → rule_and_next (entry_at s at) (record { at = next_at s at }) ≡ step_at s at
   step-whole h = rw (whole_true s at h.short h.some h.few h.fits) refl
 
 -- the entry at a place stands for the rule there
@@ -36,18 +34,20 @@ pub record Stepped (s : List ℕ) (at : ℕ) (e : Entry) (next : Cursor) : Type 
   pub entry : e ≡ entry_at s at
   pub place : next.at ≡ next_at s at
 
-pub step-rule : (s : List ℕ) (at : ℕ) (step : Step) (e : Entry) (next : Cursor) → step ≡ step_at s at → step ≡ Rule-and-next e next → Stepped s at e next
+pub step-rule : (s : List ℕ) (at : ℕ) (step : Option (Entry × Cursor)) (e : Entry) (next : Cursor) → step ≡ step_at s at → step ≡ rule_and_next e next → Stepped s at e next
 step-rule s at step e next h k = by_test (whole_at s at) refl (sym k ∙ h)
   where
-    by_test : (t : Bool) → whole_at s at ≡ t → Rule-and-next e next ≡ cond t (Rule-and-next (entry_at s at) (record { at = next_at s at })) Malformed
+    by_test : (t : Bool) → whole_at s at ≡ t → rule_and_next e next ≡ cond t (rule_and_next (entry_at s at) (record { at = next_at s at })) None
         → Stepped s at e next
-    by_test true w q = record { whole = w; entry = cc; place = let p : next ≡ record { at = next_at s at } = cc in ap (λ (c : Cursor). c.at) p }
+    by_test true w q =
+        let p : ◌≡◌ {A = Entry × Cursor} (e, next) (entry_at s at, record { at = next_at s at }) = cc in
+        record { whole = w; entry = ap (λ (p : Entry × Cursor). p.0) p; place = ap (λ (p : Entry × Cursor). p.1.at) p }
     by_test false w q = absurd (let z : ◌≡◌ {A = ℕ} 0 1 = cc in let f : ⊥ = omega arith in f)
 
-pub step-none : (s : List ℕ) (at : ℕ) (step : Step) → step ≡ step_at s at → step ≡ Malformed → whole_at s at ≡ false
+pub step-none : (s : List ℕ) (at : ℕ) (step : Option (Entry × Cursor)) → step ≡ step_at s at → step ≡ None → whole_at s at ≡ false
 step-none s at step h k = by_test (whole_at s at) refl (sym k ∙ h)
   where
-    by_test : (t : Bool) → whole_at s at ≡ t → Malformed ≡ cond t (Rule-and-next (entry_at s at) (record { at = next_at s at })) Malformed
+    by_test : (t : Bool) → whole_at s at ≡ t → None ≡ cond t (rule_and_next (entry_at s at) (record { at = next_at s at })) None
         → whole_at s at ≡ false
     by_test true w q = absurd (let z : ◌≡◌ {A = ℕ} 0 1 = cc in let f : ⊥ = omega arith in f)
     by_test false w q = w
@@ -62,20 +62,20 @@ pub record Hands (s : List ℕ) (k : ℕ) (e : Entry) (next : Cursor) : Type 0 w
   pub place : next.at ≡ rule_place s (k + 1)
 
 -- what a step at rule k yields: no rule only where none is whole, else rule k
-pub record Yields (s : List ℕ) (k : ℕ) (step : Step) : Type 0 where
-  pub none : step ≡ Malformed → whole_at s (rule_place s k) ≡ false
-  pub some : whole_at s (rule_place s k) ≡ true → step ≡ Malformed → ⊥
-  pub hands : {e : Entry} {next : Cursor} → step ≡ Rule-and-next e next → Hands s k e next
+pub record Yields (s : List ℕ) (k : ℕ) (step : Option (Entry × Cursor)) : Type 0 where
+  pub none : step ≡ None → whole_at s (rule_place s k) ≡ false
+  pub some : whole_at s (rule_place s k) ≡ true → step ≡ None → ⊥
+  pub hands : {e : Entry} {next : Cursor} → step ≡ rule_and_next e next → Hands s k e next
 
 -- the law of all walks over the rules of a book
-pub yields : {s : List ℕ} {k at : ℕ} {step : Step} → at ≡ rule_place s k → step ≡ step_at s at → Yields s k step
+pub yields : {s : List ℕ} {k at : ℕ} {step : Option (Entry × Cursor)} → at ≡ rule_place s k → step ≡ step_at s at → Yields s k step
 unfolding entry_rule
 yields {s} {k} {at} {step} p d = record { none = cut; some = λ w q. true≢false (sym w ∙ cut q); hands = handed }
   where
-    cut : step ≡ Malformed → whole_at s (rule_place s k) ≡ false
+    cut : step ≡ None → whole_at s (rule_place s k) ≡ false
     cut q = rw (← p) (step-none s at step d q)
 
-    handed : {e : Entry} {next : Cursor} → step ≡ Rule-and-next e next → Hands s k e next
+    handed : {e : Entry} {next : Cursor} → step ≡ rule_and_next e next → Hands s k e next
     handed {e} {next} q =
         let t : Stepped s at e next = step-rule s at step e next d q in
         let w : Whole s at = whole_facts s at t.whole in

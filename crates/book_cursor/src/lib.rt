@@ -17,15 +17,6 @@ pub struct Entry {
     pub size: usize,
 }
 
-// What stands at a cursor.
-#[derive(Clone, Copy)]
-pub enum Step {
-    // A whole rule, and the cursor past it.
-    Rule(Entry, Cursor),
-    // A length of 0 or over 8, or a rule that is cut short.
-    Malformed,
-}
-
 impl Cursor {
     // The place of rule 0.
     pub fn first() -> Self
@@ -34,35 +25,33 @@ impl Cursor {
         Cursor { at: 8 }
     }
 
-    // The rule at this place, with the next cursor.
-    pub fn step(self, book: &[u8]) -> Step
+    // The rule at this place, with the next cursor; none where its length is 0 or over 8, or it is cut short.
+    pub fn step(self, book: &[u8]) -> Option<(Entry, Cursor)>
         ensures { result ≡ step_at book.now self.at }
     {
         let at = self.at;
         if book.len() < 2 {
-            return Step::Malformed;
+            return None;
         }
         if book.len() - 2 < at {
-            return Step::Malformed;
+            return None;
         }
         let size = book[at + 1] as usize;
         let start = at + 2;
         if size < 1 {
-            return Step::Malformed;
+            return None;
         }
         if 8 < size {
-            return Step::Malformed;
+            return None;
         }
         if book.len() - start < size {
-            return Step::Malformed;
+            return None;
         }
-        Step::Rule(
-            Entry {
-                right: book[at],
-                start: start,
-                size: size,
-            },
-            Cursor { at: start + size },
-        )
+        let entry = Entry {
+            right: book[at],
+            start,
+            size,
+        };
+        Some((entry, Cursor { at: start + size }))
     }
 }

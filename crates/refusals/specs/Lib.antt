@@ -2,4 +2,4 @@ pub mod BookRefusals
 pub mod BuildRefusals
 pub mod QueryRefusals
 pub mod BookQueryRefusals
-pub mod Check
+pub mod Said

@@ -1,6 +1,7 @@
 // Why a book is refused by causes 1 to 8, which every call that takes a book judges first.
-ghost use Rattle.std.specs.Prelude.{◌≡◌};
 ghost use Rattle.refusals.specs.BookRefusals.{book_cause, book_value};
+
+use crate::refusal::Refusal;
 
 #[derive(Clone, Copy)]
 pub enum BookRefusal {
@@ -22,34 +23,34 @@ pub enum BookRefusal {
     NoOrder(usize),
 }
 
-// The number of the cause.
-pub fn book_cause(refusal: BookRefusal) -> usize
-    ensures { result ≡ book_cause refusal }
-{
-    match refusal {
-        BookRefusal::Size => 1,
-        BookRefusal::Mark => 2,
-        BookRefusal::Version => 3,
-        BookRefusal::Range => 4,
-        BookRefusal::Malformed(_) => 5,
-        BookRefusal::Undeclared(_) => 6,
-        BookRefusal::Repeated(_) => 7,
-        BookRefusal::NoOrder(_) => 8,
-    }
-}
+impl Refusal for BookRefusal {
+    ghost cause_of = { book_cause };
 
-// What is returned beside the number.
-pub fn book_value(refusal: BookRefusal) -> usize
-    ensures { result ≡ book_value refusal }
-{
-    match refusal {
-        BookRefusal::Size => 0,
-        BookRefusal::Mark => 0,
-        BookRefusal::Version => 0,
-        BookRefusal::Range => 0,
-        BookRefusal::Malformed(rule) => rule,
-        BookRefusal::Undeclared(rule) => rule,
-        BookRefusal::Repeated(rule) => rule,
-        BookRefusal::NoOrder(rule) => rule,
+    ghost value_of = { book_value };
+
+    fn cause(self) -> usize {
+        match self {
+            BookRefusal::Size => 1,
+            BookRefusal::Mark => 2,
+            BookRefusal::Version => 3,
+            BookRefusal::Range => 4,
+            BookRefusal::Malformed(_) => 5,
+            BookRefusal::Undeclared(_) => 6,
+            BookRefusal::Repeated(_) => 7,
+            BookRefusal::NoOrder(_) => 8,
+        }
+    }
+
+    fn value(self) -> usize {
+        match self {
+            BookRefusal::Size => 0,
+            BookRefusal::Mark => 0,
+            BookRefusal::Version => 0,
+            BookRefusal::Range => 0,
+            BookRefusal::Malformed(rule) => rule,
+            BookRefusal::Undeclared(rule) => rule,
+            BookRefusal::Repeated(rule) => rule,
+            BookRefusal::NoOrder(rule) => rule,
+        }
     }
 }

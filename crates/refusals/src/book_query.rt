@@ -1,9 +1,11 @@
 // Why a question put to a book is refused: by the book, by the question, or by what is lent with it, causes 15 to 17.
 ghost use Rattle.std.specs.Prelude.{◌≡◌};
+ghost use Rattle.refusals.specs.declared.book_query.BookQueryRefusal.TheVariants.{Book, Question};
 ghost use Rattle.refusals.specs.BookQueryRefusals.{book_query_cause, book_query_value};
 
-use crate::book::{BookRefusal, book_cause, book_value};
-use crate::query::{QueryRefusal, query_cause};
+use crate::book::BookRefusal;
+use crate::query::QueryRefusal;
+use crate::refusal::Refusal;
 
 #[derive(Clone, Copy)]
 pub enum BookQueryRefusal {
@@ -21,30 +23,46 @@ pub enum BookQueryRefusal {
     Impossible(usize),
 }
 
-// The number of the cause.
-pub fn book_query_cause(refusal: BookQueryRefusal) -> usize
-    ensures { result ≡ book_query_cause refusal }
-{
-    match refusal {
-        BookQueryRefusal::Book(book) => book_cause(book),
-        BookQueryRefusal::Question(question) => query_cause(question),
-        BookQueryRefusal::Long => 15,
-        BookQueryRefusal::Buffer => 16,
-        BookQueryRefusal::Uneven => 17,
-        BookQueryRefusal::Impossible(_) => 17,
+impl From<BookRefusal> for BookQueryRefusal {
+    ghost from_gives = { λ book refusal. refusal ≡ Book book };
+
+    fn from(book: BookRefusal) -> BookQueryRefusal {
+        BookQueryRefusal::Book(book)
     }
 }
 
-// What is returned beside the number.
-pub fn book_query_value(refusal: BookQueryRefusal) -> usize
-    ensures { result ≡ book_query_value refusal }
-{
-    match refusal {
-        BookQueryRefusal::Book(book) => book_value(book),
-        BookQueryRefusal::Question(_) => 0,
-        BookQueryRefusal::Long => 0,
-        BookQueryRefusal::Buffer => 0,
-        BookQueryRefusal::Uneven => 0,
-        BookQueryRefusal::Impossible(step) => step,
+impl From<QueryRefusal> for BookQueryRefusal {
+    ghost from_gives = { λ question refusal. refusal ≡ Question question };
+
+    fn from(question: QueryRefusal) -> BookQueryRefusal {
+        BookQueryRefusal::Question(question)
+    }
+}
+
+impl Refusal for BookQueryRefusal {
+    ghost cause_of = { book_query_cause };
+
+    ghost value_of = { book_query_value };
+
+    fn cause(self) -> usize {
+        match self {
+            BookQueryRefusal::Book(book) => book.cause(),
+            BookQueryRefusal::Question(question) => question.cause(),
+            BookQueryRefusal::Long => 15,
+            BookQueryRefusal::Buffer => 16,
+            BookQueryRefusal::Uneven => 17,
+            BookQueryRefusal::Impossible(_) => 17,
+        }
+    }
+
+    fn value(self) -> usize {
+        match self {
+            BookQueryRefusal::Book(book) => book.value(),
+            BookQueryRefusal::Question(_) => 0,
+            BookQueryRefusal::Long => 0,
+            BookQueryRefusal::Buffer => 0,
+            BookQueryRefusal::Uneven => 0,
+            BookQueryRefusal::Impossible(step) => step,
+        }
     }
 }

@@ -1,8 +1,10 @@
 // Why a build is refused: by the book, or by its tables, causes 9 to 11.
 ghost use Rattle.std.specs.Prelude.{◌≡◌};
+ghost use Rattle.refusals.specs.declared.build.BuildRefusal.TheVariants.{Book};
 ghost use Rattle.refusals.specs.BuildRefusals.{build_cause, build_value};
 
-use crate::book::{BookRefusal, book_cause, book_value};
+use crate::book::BookRefusal;
+use crate::refusal::Refusal;
 
 #[derive(Clone, Copy)]
 pub enum BuildRefusal {
@@ -16,26 +18,34 @@ pub enum BuildRefusal {
     Short,
 }
 
-// The number of the cause.
-pub fn build_cause(refusal: BuildRefusal) -> usize
-    ensures { result ≡ build_cause refusal }
-{
-    match refusal {
-        BuildRefusal::Book(book) => book_cause(book),
-        BuildRefusal::States => 9,
-        BuildRefusal::Transitions => 10,
-        BuildRefusal::Short => 11,
+impl From<BookRefusal> for BuildRefusal {
+    ghost from_gives = { λ book refusal. refusal ≡ Book book };
+
+    fn from(book: BookRefusal) -> BuildRefusal {
+        BuildRefusal::Book(book)
     }
 }
 
-// What is returned beside the number.
-pub fn build_value(refusal: BuildRefusal) -> usize
-    ensures { result ≡ build_value refusal }
-{
-    match refusal {
-        BuildRefusal::Book(book) => book_value(book),
-        BuildRefusal::States => 0,
-        BuildRefusal::Transitions => 0,
-        BuildRefusal::Short => 0,
+impl Refusal for BuildRefusal {
+    ghost cause_of = { build_cause };
+
+    ghost value_of = { build_value };
+
+    fn cause(self) -> usize {
+        match self {
+            BuildRefusal::Book(book) => book.cause(),
+            BuildRefusal::States => 9,
+            BuildRefusal::Transitions => 10,
+            BuildRefusal::Short => 11,
+        }
+    }
+
+    fn value(self) -> usize {
+        match self {
+            BuildRefusal::Book(book) => book.value(),
+            BuildRefusal::States => 0,
+            BuildRefusal::Transitions => 0,
+            BuildRefusal::Short => 0,
+        }
     }
 }

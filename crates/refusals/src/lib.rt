@@ -1,14 +1,14 @@
-// Why a call refuses what it is given, an enum for each kind of call, with document 01's number and value; and what a check finds.
+// Why a call refuses what it is given, an enum for each kind of call, with document 01's number and value.
 #![tactic(auto)]
 
 mod book;
 mod book_query;
 mod build;
-mod check;
 mod query;
+mod refusal;
 
-pub use book::{BookRefusal, book_cause, book_value};
-pub use book_query::{BookQueryRefusal, book_query_cause, book_query_value};
-pub use build::{BuildRefusal, build_cause, build_value};
-pub use check::Check;
-pub use query::{QueryRefusal, query_cause};
+pub use book::BookRefusal;
+pub use book_query::BookQueryRefusal;
+pub use build::BuildRefusal;
+pub use query::QueryRefusal;
+pub use refusal::Refusal;

@@ -1,6 +1,7 @@
 // Why a question put to tables is refused, causes 12 to 14. The value beside each of them is 0.
-ghost use Rattle.std.specs.Prelude.{◌≡◌};
-ghost use Rattle.refusals.specs.QueryRefusals.{query_cause};
+ghost use Rattle.refusals.specs.QueryRefusals.{query_cause, query_value};
+
+use crate::refusal::Refusal;
 
 #[derive(Clone, Copy)]
 pub enum QueryRefusal {
@@ -12,13 +13,20 @@ pub enum QueryRefusal {
     Role,
 }
 
-// The number of the cause.
-pub fn query_cause(refusal: QueryRefusal) -> usize
-    ensures { result ≡ query_cause refusal }
-{
-    match refusal {
-        QueryRefusal::Tables => 12,
-        QueryRefusal::Chain => 13,
-        QueryRefusal::Role => 14,
+impl Refusal for QueryRefusal {
+    ghost cause_of = { query_cause };
+
+    ghost value_of = { query_value };
+
+    fn cause(self) -> usize {
+        match self {
+            QueryRefusal::Tables => 12,
+            QueryRefusal::Chain => 13,
+            QueryRefusal::Role => 14,
+        }
+    }
+
+    fn value(self) -> usize {
+        0
     }
 }

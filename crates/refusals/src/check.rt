@@ -1,6 +1,0 @@
-// What a check finds.
-#[derive(Clone, Copy)]
-pub enum Check {
-    Passed,
-    Failed,
-}
