@@ -1,11 +1,18 @@
 -- Laws of declared names: the roles of a rule, tested one by one.
-use Rattle.std.specs.Prelude.{true, false, List, [], ◌∷◌, ◌≡◌, refl, ℕ, zero, suc, ◌+◌, ◌*◌, ◌<◌, ◌≤◌, ltb, length, get_or}
+use Rattle.std.specs.Prelude.{Bool, ◌&&◌, true, false, List, [], ◌∷◌, ◌≡◌, refl, ℕ, zero, suc, ◌+◌, ◌*◌, ◌<◌, ◌≤◌, ltb, length, get_or}
+use Rattle.std.specs.List.{list_all}
 use Rattle.std.proofs.Math.Bool.{and-false}
-use Rattle.std.proofs.Common.{not-suc-le-zero, le_of_suc-le-suc, arith, lt-ltb, le-ltb, ltb-true}
+use Rattle.std.proofs.Common.{ap, not-suc-le-zero, le_of_suc-le-suc, arith, lt-ltb, le-ltb, ltb-true}
 use Rattle.base.specs.Truth.{and_left, and_right}
 use Rattle.roles.specs.Role.{Chain}
 use Rattle.base.specs.Part.{part, get_or_part, length_part}
 use Rattle.book_format.specs.Format.{named}
+
+-- the test of all links
+pub list_all-named : (n : ℕ) (w : Chain) → list_all (λ r. ltb r (2 * n)) w ≡ named n w
+unfolding named
+list_all-named n [] = refl
+list_all-named n (r ∷ w) = ap (λ (t : Bool). ltb r (2 * n) && t) (list_all-named n w)
 
 pub named-all : (n : ℕ) (w : Chain) → ((k : ℕ) → k < length w → get_or w k 0 < 2 * n) → named n w ≡ true
 unfolding named

@@ -1,20 +1,21 @@
-use mathlib.Core.Path.{sym, ap}
-use native.Mathlib.Omega.{arith}
+use Rattle.std.proofs.Common.{refl, ap, ◌∙◌, ◌*◌, arith, lt-ltb, le-ltb}
+use Rattle.std.specs.Prelude.{ltb}
+use Rattle.std.specs.List.{list_all}
+use Rattle.roles.specs.Role.{Chain}
+use Rattle.book_format.specs.Format.{named}
+use Rattle.book_format.specs.DeclaredLaws.{list_all-named}
 use Rattle.book_cursor.specs.Cursor.{entry_rule}
-use Rattle.refusals.specs.Check.{check}
-use Rattle.book_format.specs.DeclaredLaws.{named-right, named-left, named_both}
+use Rattle.book_cursor.specs.CursorLaws.{entry-part}
 use Rattle.book_decoder.proofs.declared.Goals as goal
 
-pub returns-then-names-right : goal.returns-then-names-right
-unfolding entry_rule
-returns-then-names-right c = ap check (sym (named-right c.args.names c.args.rule.right c.args.book.now c.args.rule.start c.args.rule.size c.if-names-right.true))
+pub returns-then-rule-names : goal.returns-then-rule-names
+unfolding named
+returns-then-rule-names c =
+    rw (lt-ltb c.args.rule.right (2 * c.args.names) (omega arith))
+    (c.all_below.ensures
+    ∙ ap (λ (w : Chain). list_all (λ r. ltb r (2 * c.args.names)) w) (entry-part _ c.args.rule)
+    ∙ list_all-named c.args.names (entry_rule c.args.book.now c.args.rule).left)
 
-pub returns-then-names-book : goal.returns-then-names-book
-unfolding entry_rule
-returns-then-names-book c =
-    ap check (sym (named-left _ _ c.args.book.now c.args.rule.start c.args.rule.size c.requires.size_in_bounds c.loop-i.i c.loop-i-test.true c.if-names-book.true))
-
-pub returns : goal.returns
-unfolding entry_rule
-returns c =
-    ap check (sym (named_both _ _ c.args.book.now c.args.rule.start c.args.rule.size c.requires.size_in_bounds c.if-names-right.false (λ k p. c.loop-i.invariant.1 k (omega arith))))
+pub returns-else-rule-names : goal.returns-else-rule-names
+unfolding named
+returns-else-rule-names c = rw (le-ltb c.args.rule.right (2 * c.args.names) (omega arith)) refl
