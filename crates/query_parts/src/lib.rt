@@ -37,17 +37,16 @@ pub fn whole(input: &[u8], at: usize) -> Option<usize>
 pub fn links(input: &[u8], at: usize, size: usize) -> &[u8]
     ensures { result.now ≡ between 3 size (drop at input.now) }
 {
-    if input.len() < at {
-        return &input[..0];
-    }
-    part(&input[at..], 3, size)
+    part(input.get(at..).unwrap_or(&[]), 3, size)
 }
 
 // The initial state of a role's name, or 0 for a name without one.
 pub fn head(heads: &[u16], role: u8) -> usize
     ensures { result ≡ get_or heads.now (name_of role) 0 }
 {
-    heads.get(name(role) as usize).map_or(0, |head| *head as usize)
+    heads
+        .get(name(role) as usize)
+        .map_or(0, |head| *head as usize)
 }
 
 // Link i of the chain, or of its inverse if the role is the inverse of a name; 0 past the end.
