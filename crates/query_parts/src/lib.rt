@@ -10,7 +10,7 @@ ghost use Rattle.query_parts.specs.Answer.{byte_of};
 ghost use Rattle.query_causes.specs.ManyQueries.{whole_size};
 
 use byte_parts::part;
-use refusals::{QueryRefusal, query_cause};
+use refusals::{QueryRefusal, Refusal};
 use role_bytes::{inverse, is_inverse, name};
 use words::word;
 
@@ -20,7 +20,7 @@ pub fn answer_byte(answer: Result<bool, QueryRefusal>) -> u8
 {
     match answer {
         Ok(found) => found as u8,
-        Err(refusal) => query_cause(refusal) as u8,
+        Err(refusal) => refusal.cause() as u8,
     }
 }
 
