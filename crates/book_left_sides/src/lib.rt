@@ -6,27 +6,24 @@ ghost use Rattle.book_format.specs.Format.{decode as decode_of};
 ghost use Rattle.book_format.specs.Place.{rule_place, has_rule, left_part};
 ghost use Rattle.book_format.specs.Place.{left_side as left_side_of};
 
-use book_cursor::{Cursor, Step};
-use book_decoder::{Verdict, decode};
+use book_cursor::Cursor;
+use book_decoder::decode;
 
 // The left side of a rule, as that part of the book; the empty part where the book is refused by causes 1 to 6 or has no such rule.
 pub fn left_side(book: &[u8], rule: usize) -> &[u8]
     ensures part { result.now ≡ left_part book.now rule }
     ensures left { result.now ≡ left_side_of (decode_of book.now) rule }
 {
-    let Verdict::WellFormed(header) = decode(book) else {
-        return &book[0..0];
+    let Ok(header) = decode(book) else {
+        return &book[..0];
     };
-    let rules = header.rules;
-    if rules <= rule {
-        return &book[0..0];
+    if header.rules <= rule {
+        return &book[..0];
     }
-    let Step::Rule(entry, _) = seek(book, rule).step(book) else {
-        return &book[0..0];
+    let Some((entry, _)) = seek(book, rule).step(book) else {
+        return &book[..0];
     };
-    let start = entry.start;
-    let end = start + entry.size;
-    &book[start..end]
+    &book[entry.start..entry.start + entry.size]
 }
 
 // The cursor at rule `rule`.
@@ -35,13 +32,11 @@ fn seek(book: &[u8], rule: usize) -> Cursor
     ensures { result.at ≡ rule_place book.now rule }
 {
     let mut cursor = Cursor::first();
-    let mut passed = 0;
-    while passed < rule {
-        let Step::Rule(_, next) = cursor.step(book) else {
+    for _ in 0..rule {
+        let Some((_, next)) = cursor.step(book) else {
             return cursor;
         };
         cursor = next;
-        passed += 1;
     }
     cursor
 }
