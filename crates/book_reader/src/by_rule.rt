@@ -10,29 +10,25 @@ use crate::key_lists::{enter, fresh};
 use crate::keyed_rule::keyed_rule;
 use book_cursor::Cursor;
 use book_decoder::Header;
-use refusals::Check;
 
-// The lowest rule that repeats one before it, or the number of rules where none does, for a book that passes causes 1 to 6.
-pub(crate) fn lowest_repeat(book: &[u8], header: Header) -> usize
+// The lowest rule that repeats one before it, if there is one, for a book that passes causes 1 to 6.
+pub(crate) fn lowest_repeat(book: &[u8], header: Header) -> Option<usize>
     requires { map_result header_of (decode_of book.now) ≡ ok header }
     ensures { judged header result ≡ map_result header_of (read_of book.now) }
 {
-    let rules = header.rules;
-    let mut keys: [u64; 256] = [0; 256];
-    let mut index: [u16; 507] = [0; 507];
+    let mut keys = [0u64; 256];
+    let mut index = [0u16; 507];
     let mut cursor = Cursor::first();
-    let mut later = 0;
-    while later < rules {
+    for later in 0..header.rules {
         let keyed = keyed_rule(book, cursor);
         let own = keyed.key;
         let list = (own % 251) as usize;
         let last = index[list] as usize;
-        let Check::Passed = fresh(&keys, &index, 251, last, own) else {
-            return later;
-        };
+        if !fresh(&keys, &index, 251, last, own) {
+            return Some(later);
+        }
         enter(&mut keys, &mut index, 251, list, own, later);
         cursor = keyed.next;
-        later += 1;
     }
-    rules
+    None
 }

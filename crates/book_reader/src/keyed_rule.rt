@@ -4,7 +4,7 @@ ghost use Rattle.book_format.specs.Place.{rule_at, whole_at};
 ghost use Rattle.rule_keys.specs.Key.{Short};
 ghost use Rattle.book_reader.specs.KeyedAt.{keyed_at};
 
-use book_cursor::{Cursor, Step};
+use book_cursor::Cursor;
 use rule_keys::key;
 
 // The key and the right role of a rule, and the cursor past it.
@@ -21,18 +21,17 @@ pub(crate) fn keyed_rule(book: &[u8], cursor: Cursor) -> KeyedRule
     requires short { Short (rule_at book.now cursor.at) }
     ensures { result ≡ keyed_at book.now cursor.at }
 {
-    let Step::Rule(entry, next) = cursor.step(book) else {
+    let Some((entry, next)) = cursor.step(book) else {
         return KeyedRule {
             key: 0,
             right: 0,
             next: cursor,
         }; // not reached: the rule is whole
     };
-    let start = entry.start;
-    let end = start + entry.size;
+    let left = &book[entry.start..entry.start + entry.size];
     KeyedRule {
-        key: key(&book[start..end], entry.right),
+        key: key(left, entry.right),
         right: entry.right,
-        next: next,
+        next,
     }
 }

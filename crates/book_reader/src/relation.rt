@@ -3,7 +3,6 @@ ghost use Rattle.std.specs.Prelude.{◌<◌, ◌≤◌, length};
 ghost use Rattle.book_reader.specs.Lowest.{Gathered, Narrowed, Lowered};
 
 use crate::key_lists::{enter, find, fresh};
-use refusals::Check;
 
 // The least of `lowest` and the relation's rules that repeat one before them. A long list is split by the remainders of the keys.
 pub(crate) fn narrowed(
@@ -18,9 +17,10 @@ pub(crate) fn narrowed(
     ensures { Narrowed keys.now name lowest result }
 {
     if size <= 16 {
-        return few(keys, targets, name, lowest);
+        few(keys, targets, name, lowest)
+    } else {
+        many(keys, targets, name, lowest)
     }
-    many(keys, targets, name, lowest)
 }
 
 // For any number of rules, and fast for few: each rule is compared with all before it in the list.
@@ -34,10 +34,8 @@ fn few(keys: &[u64], targets: &[u16], name: usize, lowest: usize) -> usize
     while 0 < at {
         let rule = at - 1;
         at = targets[64 + rule] as usize;
-        if rule < least {
-            if let Check::Failed = fresh(keys, targets, 64, at, keys[rule]) {
-                least = rule;
-            }
+        if rule < least && !fresh(keys, targets, 64, at, keys[rule]) {
+            least = rule;
         }
     }
     least
@@ -50,9 +48,9 @@ fn many(keys: &[u64], targets: &[u16], name: usize, lowest: usize) -> usize
     requires name_bound { name < 64 }
     ensures { Narrowed keys.now name lowest result }
 {
-    let mut met: [u64; 256] = [0; 256];
-    let mut numbers: [u16; 256] = [0; 256];
-    let mut index: [u16; 507] = [0; 507];
+    let mut met = [0u64; 256];
+    let mut numbers = [0u16; 256];
+    let mut index = [0u16; 507];
     let mut count = 0;
     let mut least = lowest;
     let mut at = targets[name] as usize;
@@ -76,10 +74,8 @@ fn lower(numbers: &[u16], entry: usize, lowest: usize) -> usize
     ensures { Lowered numbers.now entry lowest result }
 {
     if 0 < entry {
-        let number = numbers[entry - 1] as usize;
-        if number < lowest {
-            return number;
-        }
+        lowest.min(numbers[entry - 1] as usize)
+    } else {
+        lowest
     }
-    lowest
 }

@@ -9,8 +9,8 @@ use crate::index::fill;
 use crate::reading::run;
 use crate::states::renew;
 use byte_parts::byte;
-use query_checker::{cause_for, names_in};
-use query_parts::{head, links, whole};
+use query_checker::{check_named, names_in};
+use query_parts::{answer_byte, head, links, whole};
 
 // How many questions are answered, and how many bytes of the input they take.
 #[derive(Clone, Copy)]
@@ -34,10 +34,9 @@ fn prepare(heads: &[u16], moves: &[u16], space: &mut [u16]) -> u8
     requires { space.old ≡ replicate 15360 0 }
     ensures { Ready heads.now moves.now result 1 space.new }
 {
-    let names = names_in(heads, moves);
-    if names == 0 {
+    let Some(names) = names_in(heads, moves) else {
         return 0;
-    }
+    };
     fill(moves, 2048, space);
     names
 }
@@ -56,21 +55,18 @@ fn answer_each(
 {
     let mut stamp = 1;
     let mut read = 0;
-    let mut answered = 0;
-    while answered < answers.len() {
-        let size = whole(input, read);
-        if size == 0 {
-            break;
-        }
+    for (answered, byte) in answers.iter_mut().enumerate() {
+        let Some(size) = whole(input, read) else {
+            return Batch { answered, read };
+        };
         let newest = renew(space, stamp);
-        answers[answered] = answer(heads, moves, names, input, read, size, newest, space);
+        *byte = answer(heads, moves, names, input, read, size, newest, space);
         stamp = newest as usize + size;
         read += size;
-        answered += 1;
     }
     Batch {
-        answered: answered,
-        read: read,
+        answered: answers.len(),
+        read,
     }
 }
 
@@ -92,9 +88,8 @@ fn answer(
 {
     let role = byte(input, read);
     let chain = links(input, read, size);
-    let cause = cause_for(names, role, chain);
-    if cause != 0 {
-        return cause;
+    if let Err(refusal) = check_named(names, role, chain) {
+        return answer_byte(Err(refusal));
     }
-    run(moves, 2048, role, chain, head(heads, role), stamp, space) as u8
+    answer_byte(Ok(run(moves, 2048, role, chain, head(heads, role), stamp, space)))
 }

@@ -12,17 +12,13 @@ pub(crate) fn fill(moves: &[u16], room: u16, space: &mut [u16]) -> bool
     requires prepared { Prepared room 1 moves.now 0 space.old }
     ensures { Filled room moves.now space.new result }
 {
-    let count = moves.len() / 3;
     let chained = 5 * room as usize;
-    let mut k = 0;
-    while k < count {
-        let list = list_of(moves, room, k);
-        if list == 0 {
+    for k in 0..moves.len() / 3 {
+        let Some(list) = list_of(moves, room, k) else {
             return false;
-        }
+        };
         space[chained + k] = space[list];
         space[list] = (k + 1) as u16;
-        k += 1;
     }
     true
 }

@@ -15,20 +15,17 @@ mod states;
 
 pub use batch::{Batch, ask_all};
 use index::fill;
-use query_checker::QueryVerdict;
-pub use query_parts::Answer;
-use query_parts::{answer_of, head};
+use query_checker::check;
+use query_parts::head;
 use reading::run;
+use refusals::QueryRefusal;
 
 // Whether tables accept a chain for a role: the first refusal of causes 12, 13 and 14; else yes or no.
-pub fn ask(heads: &[u16], moves: &[u16], role: u8, chain: &[u8]) -> Answer
+pub fn ask(heads: &[u16], moves: &[u16], role: u8, chain: &[u8]) -> Result<bool, QueryRefusal>
     ensures { Answered heads.now moves.now role chain.now (says result) }
 {
-    let question = query_checker::check(heads, moves, role, chain);
-    match question {
-        QueryVerdict::Refused(refusal) => Answer::Refused(refusal),
-        QueryVerdict::Fits => { answer_of(accepts(moves, role, chain, head(heads, role))) }
-    }
+    check(heads, moves, role, chain)?;
+    Ok(accepts(moves, role, chain, head(heads, role)))
 }
 
 // Whether a path from the state `head` to the next one spells the chain, or its inverse for the inverse of a name. Small tables are read in a

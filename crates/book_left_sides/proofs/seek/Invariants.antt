@@ -1,6 +1,5 @@
 -- `seek` meets its contract. The invariant: the cursor is at the rule of that number.
 use mathlib.Core.Path.{◌≡◌}
-use Prim.Native.Nat.{◌≤◌, ◌-◌}
 use Rattle.book_format.specs.Place.{rule_place}
 use Rattle.book_left_sides.proofs.seek.Given as goal
 

@@ -1,8 +1,11 @@
 -- `read` meets its contract: `decode` settles causes 1 to 6, and the lowest repeat cause 7.
 use mathlib.Core.Path.{sym, ap, ◌∙◌}
+use Rattle.std.proofs.lemmas.Result.{err_from_is_err_and}
 use Rattle.book_decoder.specs.Verdict.{says}
 use Rattle.book_decoder.specs.VerdictLaws.{read-refused}
 use Rattle.book_reader.proofs.read.Goals as goal
 
-pub returns-in_default : goal.returns-in_default
-returns-in_default c = ap says c.in_default.is ∙ read-refused _ (sym (ap says c.in_default.is) ∙ c.decode-reading.ensures)
+pub returns-in_err-header : goal.returns-in_err-header
+returns-in_err-header c =
+    let refused = err_from_is_err_and c.from_residual.result c.from_residual.ensures.1 in
+    rw (refused.1, refused.2) (read-refused _ (sym (ap says c.in_err-header.was) ∙ c.decode.ensures))

@@ -1,17 +1,17 @@
 -- `ask` meets its contract: `check` settles causes 12 to 14, and a question that passes them is decided by `accepts`.
-use mathlib.Core.Path.{sym, ap, ◌∙◌}
+use Rattle.std.proofs.Common.{refl, sym}
+use Rattle.std.proofs.lemmas.Result.{err_from_is_err_and}
 use Rattle.base.specs.Decision.Decision.{refuses}
-use Rattle.query_checker.specs.QueryVerdict.{says as found}
 use Rattle.query_simulation.specs.QueryLaws.{askable, answered}
 use Rattle.query_answerer.proofs.ask.Goals as goal
 
+pub returns-in_err-check : goal.returns-in_err-check
+returns-in_err-check c =
+    let p = err_from_is_err_and c.from_residual.result c.from_residual.ensures.1 in
+    rw (p.1, p.2) (refuses _ 0 (sym c.in_err-check.ensures))
+
 pub accepts-requires : goal.accepts-requires
-accepts-requires c =
-    askable _ _ _ _ (sym c.check-question.ensures ∙ ap found c.in-Fits.is) c.head.ensures
+accepts-requires c = askable _ _ _ _ (sym c.in_ok-check.ensures) c.head.ensures
 
-pub returns-in-Refused : goal.returns-in-Refused
-returns-in-Refused c = refuses _ 0 (sym c.check-question.ensures ∙ ap found c.in-Refused.is)
-
-pub returns-in-Fits : goal.returns-in-Fits
-returns-in-Fits c =
-    answered _ _ _ _ (sym c.check-question.ensures ∙ ap found c.in-Fits.is) c.head.ensures _ c.accepts.ensures c.answer_of.ensures
+pub returns : goal.returns
+returns c = answered _ _ _ _ (sym c.in_ok-check.ensures) c.head.ensures _ c.accepts.ensures refl

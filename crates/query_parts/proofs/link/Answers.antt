@@ -9,5 +9,5 @@ returns-then-chain-i c = sym (asked-past _ _ c.if-chain-i.true)
 pub returns-then-is_inverse : goal.returns-then-is_inverse
 returns-then-is_inverse c = c.inverse.ensures ∙ asked-inverse _ _ _ c.if-chain-i.false (sym c.is_inverse.ensures ∙ c.if-is_inverse.true)
 
-pub returns : goal.returns
-returns c = asked-name _ _ _ c.if-chain-i.false (sym c.is_inverse.ensures ∙ c.if-is_inverse.false)
+pub returns-else-is_inverse : goal.returns-else-is_inverse
+returns-else-is_inverse c = asked-name _ _ _ c.if-chain-i.false (sym c.is_inverse.ensures ∙ c.if-is_inverse.false)

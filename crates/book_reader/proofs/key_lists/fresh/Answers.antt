@@ -1,13 +1,16 @@
 -- `fresh` meets its contract: a key is one of the first where it has an entry.
-use mathlib.Core.Bool.{Bool, not}
-use mathlib.Core.Path.{sym, ap}
-use native.Mathlib.Omega.{arith}
-use Rattle.refusals.specs.Check.{check}
+use Rattle.std.specs.Prelude.{◌⊎◌, ◌≡◌, ◌<◌, ◌≤◌, not, eqb}
+use Rattle.std.proofs.Common.{inl, inr, arith, eq-eqb}
+use Rattle.std.proofs.lemmas.Bool.{ne_eqb}
+use Rattle.base.specs.Truth.{lt_or_le}
+use Rattle.book_reader.specs.Entered.{among}
 use Rattle.book_reader.specs.EnteredLaws.{found_among, none-among}
 use Rattle.book_reader.proofs.key_lists.fresh.Goals as goal
+use Rattle.book_reader.proofs.key_lists.fresh.Goals.{After-find}
 
-pub returns-then-find-gt0 : goal.returns-then-find-gt0
-returns-then-find-gt0 c = ap (λ (t : Bool). check (not t)) (sym (found_among _ c.find.ensures c.if-find-gt0.true))
+by_place : (c : After-find) → (0 < c.find.result) ⊎ (c.find.result ≤ 0) → eqb c.find.result 0 ≡ not (among c.args.keys.now c.args.last c.args.key)
+by_place c (inl p) = rw (found_among _ c.find.ensures p) (ne_eqb c.find.result 0 (omega arith))
+by_place c (inr p) = rw (none-among _ c.find.ensures (omega arith)) (eq-eqb _ _ (omega arith))
 
 pub returns : goal.returns
-returns c = ap (λ (t : Bool). check (not t)) (sym (none-among _ c.find.ensures (omega (arith, c.if-find-gt0.false))))
+returns c = by_place (goal.at.returns c).After-find (lt_or_le 0 c.find.result)

@@ -1,13 +1,9 @@
-use mathlib.Core.Path.{sym, ◌∙◌}
-use native.Mathlib.Omega.{arith}
-use Rattle.query_simulation.specs.TablesLaws.{heads-next, heads_not, heads-end}
+-- `heads_fit` meets its contract: `all` tests each initial state as the definition does.
+use Rattle.std.proofs.Common.{rules, nat_le, refl}
+use Rattle.std.proofs.lemmas.List.Recursion.{and_is}
+use Rattle.query_causes.specs.Query.{heads_fit}
 use Rattle.query_checker.proofs.checks.heads_fit.Goals as goal
 
-pub returns-then-heads-i-gt2046 : goal.returns-then-heads-i-gt2046
-returns-then-heads-i-gt2046 c = sym (heads_not _ _ c.loop-i-test.true (omega arith)) ∙ c.loop-i.invariant.1
-
-pub loop-i-preserved : goal.loop-i-preserved
-loop-i-preserved c = (omega arith, sym (heads-next _ _ c.loop-i-test.true (omega arith)) ∙ c.loop-i.invariant.1)
-
 pub returns : goal.returns
-returns c = sym (heads-end _ _ c.loop-i-test.false) ∙ c.loop-i.invariant.1
+unfolding heads_fit
+returns c = and_is heads_fit (λ h. nat_le h 2046) refl (λ _ _. refl) c.args.heads.now 0 c.all.result (search rules) (search rules)

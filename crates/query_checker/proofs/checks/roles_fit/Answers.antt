@@ -1,18 +1,16 @@
-use mathlib.Core.List.{◌∷◌}
-use mathlib.Core.Path.{ap, sym}
-use Prim.Native.Nat.{suc}
-use native.Mathlib.Omega.{arith}
-use Rattle.book_format.specs.DeclaredLaws.{named_not}
-use Rattle.query_simulation.specs.QueryLaws.{named_so}
-use Rattle.refusals.specs.Check.{check}
+-- `roles_fit` meets its contract: `all` tests each link as the definition does.
+use Rattle.std.proofs.Common.{rules, nat_lt, refl, ◌*◌, arith, lt-ltb, le-ltb}
+use Rattle.std.proofs.lemmas.List.Recursion.{and_is}
+use Rattle.book_format.specs.Format.{named}
 use Rattle.query_checker.proofs.checks.roles_fit.Goals as goal
 
-pub returns-then-end-role : goal.returns-then-end-role
-returns-then-end-role c = ap check (sym (named_not _ (c.args.role ∷ c.args.chain.now) 0 (omega arith) (omega arith)))
+pub returns-then-role-end : goal.returns-then-role-end
+unfolding named
+returns-then-role-end c =
+    let names = c.args.names in
+    rw (lt-ltb c.args.role (2 * names) c.if-role-end.true)
+    (and_is (named names) (λ r. nat_lt r (2 * names)) refl (λ _ _. refl) c.args.chain.now 0 c.all.result (search rules) (search rules))
 
-pub returns-then-end-chain : goal.returns-then-end-chain
-returns-then-end-chain c =
-    ap check (sym (named_not _ (c.args.role ∷ c.args.chain.now) (suc c.loop-i.i) (omega arith) c.if-end-chain.true))
-
-pub returns : goal.returns
-returns c = ap check (sym (named_so _ _ _ c.if-end-role.false (λ k l. c.loop-i.invariant.1 k (omega arith))))
+pub returns-else-role-end : goal.returns-else-role-end
+unfolding named
+returns-else-role-end c = rw (le-ltb c.args.role (2 * c.args.names) c.if-role-end.false) refl
