@@ -1,5 +1,5 @@
 -- What the order check's answers say.
-use Rattle.std.specs.Prelude.{Bool, true, false, List, ◌≡◌, ℕ, replicate}
+use Rattle.std.specs.Prelude.{Bool, true, false, not, List, ◌≡◌, ℕ, replicate}
 use Rattle.roles.specs.Rule.{Rule, Book}
 use Rattle.order.specs.Closure.{with_rule, clashes}
 use Rattle.name_sets.specs.Mask.{Holds}

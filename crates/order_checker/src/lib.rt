@@ -18,7 +18,7 @@ use book_cursor::Cursor;
 use book_decoder::Header;
 use masks::{absorb, reached};
 use name_sets::has;
-use order_levels::levels_of;
+use order_levels::{Levels, levels_of};
 use refusals::BookRefusal;
 use rule_shapes::{Shape, shape_of};
 
