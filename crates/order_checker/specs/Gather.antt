@@ -1,5 +1,5 @@
 -- What the order check's answers say.
-use Rattle.std.specs.Prelude.{Bool, true, false, List, ◌≡◌, ℕ, replicate}
+use Rattle.std.specs.Prelude.{Bool, true, false, not, List, ◌≡◌, ℕ, replicate}
 use Rattle.roles.specs.Rule.{Rule, Book}
 use Rattle.order.specs.Closure.{with_rule, clashes}
 use Rattle.name_sets.specs.Mask.{Holds}
@@ -11,21 +11,15 @@ use Rattle.book_causes.specs.Ordered.{ordered, Judged}
 use Rattle.book_causes.specs.Accepted.{levels_of, depth_of, count_or_none, written}
 use Rattle.book_header.specs.declared.Header.{Header}
 use Rattle.book_decoder.specs.Verdict.{header_of, says}
-use Rattle.order_checker.specs.declared.Gathered.{Gathered}
-use Rattle.order_checker.specs.declared.Gathered.TheVariants.{Extends, Clash}
 use Rattle.order_checker.specs.declared.Ordering.{Ordering}
 
 -- a relation on names that is transitive
 abbrev pub Transitive : (ℕ → ℕ → Bool) → Type 0
 Transitive lower = (x y z : ℕ) → lower x y ≡ true → lower y z ≡ true → lower x z ≡ true
 
-abbrev pub gathered : Bool → Gathered
-gathered false = Extends
-gathered true = Clash
-
 -- what adding a rule to masks answers, and the masks that it leaves: the order goes on unless the rule clashes with it
-pub record Added (ρ : Rule) (masks : List ℕ) (r : Gathered) (new : List ℕ) : Type 0 where
-  pub answer : (lower : ℕ → ℕ → Bool) → Transitive lower → Holds masks lower → r ≡ gathered (clashes lower ρ)
+pub record Added (ρ : Rule) (masks : List ℕ) (r : Bool) (new : List ℕ) : Type 0 where
+  pub answer : (lower : ℕ → ℕ → Bool) → Transitive lower → Holds masks lower → r ≡ not (clashes lower ρ)
   pub leaves : (lower : ℕ → ℕ → Bool) → Transitive lower → Holds masks lower → clashes lower ρ ≡ false → Holds new (with_rule lower ρ)
 
 -- where the book passes, the masks hold the order that its rules force

@@ -1,6 +1,7 @@
 -- The gathering over a book's bytes as the loop runs it: the masks after k rules hold the order that these force.
 use Rattle.std.specs.Prelude.{Bool, true, false, List, ◌∷◌, ◌≡◌, refl, ℕ, ◌+◌, ◌<◌, ◌≤◌, length}
 use Rattle.std.proofs.Common.{sym, ap, ◌∙◌, arith}
+use Rattle.std.proofs.lemmas.Bool.{not-true, not-false}
 use Rattle.roles.specs.Rule.{Rule, Book}
 use Rattle.order.specs.Closure.{no_order, with_rule, clashes}
 use Rattle.name_sets.specs.Mask.{Holds}
@@ -15,18 +16,7 @@ use Rattle.book_causes.specs.Ordered.{ordered}
 use Rattle.book_causes.specs.OrderedRun.{Gathering, gathering_start, gathering_next, gathering_clash, gathering_end, gathering_closed, ordered-from, ordered-read}
 use Rattle.book_header.specs.declared.Header.{Header}
 use Rattle.book_decoder.specs.Verdict.{header_of}
-use Rattle.order_checker.specs.declared.Gathered.{Gathered}
-use Rattle.order_checker.specs.declared.Gathered.TheVariants.{Extends, Clash}
-use Rattle.order_checker.specs.Gather.{gathered, Added, GatheredOrder}
-
--- what adding a rule answered
-gathered_extends : (t : Bool) (r : Gathered) → r ≡ gathered t → r ≡ Extends → t ≡ false
-gathered_extends true r h k = absurd (let z : ◌≡◌ {A = ℕ} 0 1 = cc in let f : ⊥ = omega arith in f)
-gathered_extends false r h k = refl
-
-gathered_clash : (t : Bool) (r : Gathered) → r ≡ gathered t → r ≡ Clash → t ≡ true
-gathered_clash true r h k = refl
-gathered_clash false r h k = absurd (let z : ◌≡◌ {A = ℕ} 0 1 = cc in let f : ⊥ = omega arith in f)
+use Rattle.order_checker.specs.Gather.{Added, GatheredOrder}
 
 -- the masks after k rules
 pub record Gathers (s masks : List ℕ) (k : ℕ) : Type 0 where
@@ -72,26 +62,26 @@ module _ {s : List ℕ} {h : Header} (f : Formed s h) where
           let d = decoded s f.book (read-decode s f.book f.reads) in
           rw (e, ← names) (d.named k (rw (← d.count) (within f.book f.reads)))
 
-      module _ {masks new : List ℕ} {r : Gathered} (a : Added ρ masks r new) (g : Gathers s masks k) where
-        pub gathers_next : r ≡ Extends → Gathers s new (k + 1)
+      module _ {masks new : List ℕ} {r : Bool} (a : Added ρ masks r new) (g : Gathers s masks k) where
+        pub gathers_next : r ≡ true → Gathers s new (k + 1)
         gathers_next q = record { order = next }
           where
             next : (b : Book) → read s ≡ ok b → (lower : ℕ → ℕ → Bool) × Gathering b (k + 1) lower × Holds new lower
             next b i =
                 let l = g.order b i in
                 let t = l.1.closed.order.transitive in
-                let extends : clashes l.0 ρ ≡ false = gathered_extends _ r (a.answer l.0 t l.2) q in (
+                let extends : clashes l.0 ρ ≡ false = not-true _ (sym (a.answer l.0 t l.2) ∙ q) in (
                   with_rule l.0 ρ,
                   gathering_next b k l.0 l.1 (within b i) ρ (read-rule s b i k (within b i) ρ e) (read_some s b i k (within b i) ρ e) extends,
                   a.leaves l.0 t l.2 extends,
                 )
 
-        pub gathers_clash : r ≡ Clash → refused 8 k ≡ map_result header_of (ordered s)
+        pub gathers_clash : r ≡ false → refused 8 k ≡ map_result header_of (ordered s)
         gathers_clash q =
             let b = f.book in
             let i = f.reads in
             let l = g.order b i in
-            let clash : clashes l.0 ρ ≡ true = gathered_clash _ r (a.answer l.0 l.1.closed.order.transitive l.2) q in
+            let clash : clashes l.0 ρ ≡ true = not-false _ (sym (a.answer l.0 l.1.closed.order.transitive l.2) ∙ q) in
             rw (ordered-from s b i, gathering_clash b k l.0 l.1 (within b i) ρ (read-rule s b i k (within b i) ρ e) clash) refl
 
   pub gathers_end : {masks : List ℕ} {k : ℕ} → h.rules ≤ k → Gathers s masks k

@@ -1,5 +1,6 @@
 -- The whole answer of the order check: refused with levels of 0, or passed with the levels of the rules.
 use Rattle.std.specs.Prelude.{List, ◌≡◌, refl, ℕ, replicate}
+use Rattle.std.specs.Prelude.{Result as Verdict}
 use Rattle.std.proofs.Math.Path.{sym, ap, subst}
 use Rattle.std.proofs.Common.{◌∙◌, take_all}
 use Rattle.std.proofs.Math.ListN.{length, get_or-replicate}
@@ -17,11 +18,11 @@ use Rattle.book_causes.specs.Ordered.{ordered}
 use Rattle.book_causes.specs.OrderedRun.{ordered-judged, ordered-read}
 use Rattle.book_causes.specs.Accepted.{levels_of, depth_of, count_or_none, written}
 use Rattle.book_header.specs.declared.Header.{Header}
-use Rattle.book_decoder.specs.declared.verdict.Verdict.{Verdict}
+use Rattle.refusals.specs.declared.book.BookRefusal.{BookRefusal}
 use Rattle.book_decoder.specs.Verdict.{header_of, says}
 use Rattle.order_checker.specs.Gather.{GatheredOrder, Ordered}
 
-module _ {s : List ℕ} {v : Verdict} (e : says v ≡ map_result header_of (ordered s)) where
+module _ {s : List ℕ} {v : Verdict Header BookRefusal} (e : says v ≡ map_result header_of (ordered s)) where
   pub order-refused : {c n : ℕ} → says v ≡ refused c n → Ordered s (record { verdict = v; levels = replicate 64 0; depth = 0 })
   order-refused r =
       let o = map_refused header_of (ordered s) (sym r ∙ e) in

@@ -14,11 +14,11 @@ ghost use Rattle.order_checker.specs.Gather.{Added, Ordered, GatheredOrder};
 
 mod masks;
 
-use book_cursor::{Cursor, Step};
-use book_decoder::{Header, Verdict};
+use book_cursor::Cursor;
+use book_decoder::Header;
 use masks::{absorb, reached};
 use name_sets::has;
-use order_levels::levels_of;
+use order_levels::{Levels, levels_of};
 use refusals::BookRefusal;
 use rule_shapes::{Shape, shape_of};
 
@@ -26,7 +26,7 @@ use rule_shapes::{Shape, shape_of};
 // refused, and so are the levels of names that it does not have.
 #[derive(Drop)]
 pub struct Ordering {
-    pub verdict: Verdict,
+    pub verdict: Result<Header, BookRefusal>,
     pub levels: [u8; 64],
     pub depth: usize,
 }
@@ -36,88 +36,73 @@ pub fn order(book: &[u8]) -> Ordering
     ensures { Ordered book.now result }
 {
     let verdict = book_reader::read(book);
-    let Verdict::WellFormed(header) = verdict else {
+    let Ok(header) = verdict else {
         return Ordering {
-            verdict: verdict,
-            levels: [0u8; 64],
+            verdict,
+            levels: [0; 64],
             depth: 0,
         };
     };
     let names = header.names;
     let mut masks = [0u64; 64];
     let gathered = gather(book, header, &mut masks[..names]);
-    let Verdict::WellFormed(_) = gathered else {
+    let Ok(_) = gathered else {
         return Ordering {
             verdict: gathered,
-            levels: [0u8; 64],
+            levels: [0; 64],
             depth: 0,
         };
     };
-    let found = levels_of(&masks[..names]);
-    let levels = found.levels;
+    let Levels { levels, depth } = levels_of(&masks[..names]);
     Ordering {
         verdict: gathered,
-        levels: levels,
-        depth: found.depth,
+        levels,
+        depth,
     }
 }
 
 // Gathers the order that the rules force on the names: mask x holds the names lower than x, with a mask for each name of the book. Refused at the
 // first rule that would put its right name below itself.
-fn gather(book: &[u8], header: Header, masks: &mut [u64]) -> Verdict
+fn gather(book: &[u8], header: Header, masks: &mut [u64]) -> Result<Header, BookRefusal>
     requires book_value { map_result header_of (read_of book.now) ≡ ok header }
     requires masks_len { length masks.old ≡ header.names }
     requires holds { Holds masks.old no_order }
     ensures result_value { says result ≡ map_result header_of (ordered book.now) }
     ensures gathered_order { GatheredOrder book.now (says result) masks.new }
 {
-    let rules = header.rules;
     let mut cursor = Cursor::first();
-    let mut number = 0;
-    while number < rules {
-        let Step::Rule(entry, next) = cursor.step(book) else {
-            return Verdict::WellFormed(header); // not reached: the book is well-formed
+    for number in 0..header.rules {
+        let Some((entry, next)) = cursor.step(book) else {
+            return Ok(header); // not reached: the book is well-formed
         };
-        let start = entry.start;
-        let end = start + entry.size;
-        let Gathered::Extends = add_rule(&book[start..end], entry.right, masks) else {
-            return Verdict::Refused(BookRefusal::NoOrder(number));
-        };
+        let left = &book[entry.start..entry.start + entry.size];
+        if !add_rule(left, entry.right, masks) {
+            return Err(BookRefusal::NoOrder(number));
+        }
         cursor = next;
-        number += 1;
     }
-    Verdict::WellFormed(header)
+    Ok(header)
 }
 
-// What adding a rule finds.
-#[derive(Clone, Copy)]
-pub enum Gathered {
-    // The order goes on, with what the rule forces.
-    Extends,
-    // The rule would put its right name below itself.
-    Clash,
-}
-
-// Adds what a rule forces, unless it would put its right name below itself.
-fn add_rule(left: &[u8], right: u8, masks: &mut [u64]) -> Gathered
+// Adds what a rule forces, unless it would put its right name below itself. Whether the order goes on.
+fn add_rule(left: &[u8], right: u8, masks: &mut [u64]) -> bool
     requires left_value { named (length masks.old) (right ∷ left.now) ≡ true }
     requires masks_len_bound { length masks.old ≤ 64 }
     ensures { Added (record { left = left.entry.now; right = right }) masks.old result masks.new }
 {
     let Shape::Row(row) = shape_of(left, right) else {
-        return Gathered::Extends;
+        return true;
     };
-    let start = row.start;
-    let end = start + row.size;
-    let lower = reached(&left[start..end], masks);
+    let inner = &left[row.start..row.start + row.size];
+    let lower = reached(inner, masks);
     let over = role_bytes::name(right) as usize;
     if has(lower, over) {
-        return Gathered::Clash;
+        return false;
     }
     let below = masks[over];
     if lower | below == below {
-        return Gathered::Extends; // nothing new: what is below the right name is below all names above it
+        return true; // nothing new: what is below the right name is below all names above it
     }
     absorb(masks, over, lower);
-    Gathered::Extends
+    true
 }

@@ -11,11 +11,11 @@ use Rattle.order_checker.proofs.add_rule.Goals.{After-name-over}
 pub returns-in_default : goal.returns-in_default
 returns-in_default c = added_none (no_inner _ _ c.shape_of.ensures c.in_default.not-Row)
 
-pub overflow_add-end : goal.overflow_add-end
-overflow_add-end c = omega (arith, row_within _ _ c.shape_of.ensures c.in-Row.is, c.well_formed)
+pub overflow_add-inner : goal.overflow_add-inner
+overflow_add-inner c = omega (arith, row_within _ _ c.shape_of.ensures c.in-Row.is, c.well_formed)
 
-pub slice_bounds-reached-end : goal.slice_bounds-reached-end
-slice_bounds-reached-end c = row_within _ _ c.shape_of.ensures c.in-Row.is
+pub slice_bounds-inner-end : goal.slice_bounds-inner-end
+slice_bounds-inner-end c = row_within _ _ c.shape_of.ensures c.in-Row.is
 
 pub reached-lower-requires-clause-by_index : goal.reached-lower-requires-clause-by_index
 reached-lower-requires-clause-by_index c =

@@ -13,7 +13,7 @@ use Rattle.order_checker.specs.GatherLaws.{formed, few_names}
 use Rattle.order_checker.specs.OrderLaws.{order-refused, order-passed}
 use Rattle.book_decoder.specs.Verdict.{header_of, says}
 use Rattle.order_checker.proofs.order.Goals as goal
-use Rattle.order_checker.proofs.order.Goals.{In-WellFormed, In-WellFormed-gathered}
+use Rattle.order_checker.proofs.order.Goals.{In-Ok, In-Ok-gathered}
 
 pub returns-in_default : goal.returns-in_default
 returns-in_default c =
@@ -21,41 +21,41 @@ returns-in_default c =
     order-refused (r ∙ sym (ap (map_result header_of) (ordered-refused header_of _ (sym r ∙ c.read-verdict.ensures)))) r
 
 -- the header is that of a book that `read` accepts, and has at most 64 names
-ok_header : (c : In-WellFormed) → map_result header_of (read c.args.book.now) ≡ ok c.in-WellFormed.header
-ok_header c = sym (sym (ap says c.in-WellFormed.is) ∙ c.read-verdict.ensures)
+ok_header : (c : In-Ok) → map_result header_of (read c.args.book.now) ≡ ok c.in-Ok.header
+ok_header c = sym (sym (ap says c.in-Ok.is) ∙ c.read-verdict.ensures)
 
 pub gather-gathered-requires-clause-book_value : goal.gather-gathered-requires-clause-book_value
-gather-gathered-requires-clause-book_value c = let earlier = (goal.at.gather-gathered-requires-clause-book_value c).In-WellFormed in ok_header earlier
+gather-gathered-requires-clause-book_value c = let earlier = (goal.at.gather-gathered-requires-clause-book_value c).In-Ok in ok_header earlier
 
-few : (c : In-WellFormed) → c.in-WellFormed.header.names ≤ 64
+few : (c : In-Ok) → c.in-Ok.header.names ≤ 64
 few c = few_names (formed (ok_header c))
 
 -- there is a mask for each name
-as_many : (c : In-WellFormed) → length {A = ℕ} (take c.in-WellFormed.header.names (replicate 64 0)) ≡ c.in-WellFormed.header.names
+as_many : (c : In-Ok) → length {A = ℕ} (take c.in-Ok.header.names (replicate 64 0)) ≡ c.in-Ok.header.names
 as_many c = length-take-le _ (replicate 64 0) (few c)
 
 pub gather-gathered-requires-clause-masks_len : goal.gather-gathered-requires-clause-masks_len
-gather-gathered-requires-clause-masks_len c = let earlier = (goal.at.gather-gathered-requires-clause-masks_len c).In-WellFormed in as_many earlier
+gather-gathered-requires-clause-masks_len c = let earlier = (goal.at.gather-gathered-requires-clause-masks_len c).In-Ok in as_many earlier
 
 pub gather-gathered-requires-clause-holds : goal.gather-gathered-requires-clause-holds
-gather-gathered-requires-clause-holds c = let earlier = (goal.at.gather-gathered-requires-clause-holds c).In-WellFormed in holds-front c.in-WellFormed.header.names (replicate 64 0) holds-none
+gather-gathered-requires-clause-holds c = let earlier = (goal.at.gather-gathered-requires-clause-holds c).In-Ok in holds-front c.in-Ok.header.names (replicate 64 0) holds-none
 
 pub returns-in_default-gathered : goal.returns-in_default-gathered
 returns-in_default-gathered c = order-refused c.gather-gathered.ensures.result_value (ap says c.in_default-gathered.is)
 
 pub slice_bounds-masks-end-2 : goal.slice_bounds-masks-end-2
-slice_bounds-masks-end-2 c = rw (length_front {A = ℕ} (replicate 64 0) _ _ c.gather-gathered.auto.masks) (few (goal.at.slice_bounds-masks-end-2 c).In-WellFormed)
+slice_bounds-masks-end-2 c = rw (length_front {A = ℕ} (replicate 64 0) _ _ c.gather-gathered.auto.masks) (few (goal.at.slice_bounds-masks-end-2 c).In-Ok)
 
 pub returns : goal.returns
 returns c =
-    let earlier = (goal.at.returns c).In-WellFormed in let size = c.gather-gathered.auto.masks ∙ as_many earlier in
-    order-passed c.gather-gathered.ensures.result_value (ap says c.in-WellFormed-gathered.is) (sym (ok_header earlier)) _ size c.gather-gathered.ensures.gathered_order (rw (take_at _ _ _ size) at c.levels_of-found.ensures)
+    let earlier = (goal.at.returns c).In-Ok in let size = c.gather-gathered.auto.masks ∙ as_many earlier in
+    order-passed c.gather-gathered.ensures.result_value (ap says c.in-Ok-gathered.is) (sym (ok_header earlier)) _ size c.gather-gathered.ensures.gathered_order (rw (take_at _ _ _ size) at c.levels_of-depth.ensures)
 
 pub slice_bounds-masks-end : goal.slice_bounds-masks-end
 slice_bounds-masks-end c = few c
 
 pub slice_bounds-gather-end : goal.slice_bounds-gather-end
-slice_bounds-gather-end c = sym (as_many (goal.at.slice_bounds-gather-end c).In-WellFormed)
+slice_bounds-gather-end c = sym (as_many (goal.at.slice_bounds-gather-end c).In-Ok)
 
 pub slice_bounds-levels_of-end : goal.slice_bounds-levels_of-end
-slice_bounds-levels_of-end c = sym (length-take-le _ _ (slice_bounds-masks-end-2 (goal.at.slice_bounds-levels_of-end c).In-WellFormed-gathered))
+slice_bounds-levels_of-end c = sym (length-take-le _ _ (slice_bounds-masks-end-2 (goal.at.slice_bounds-levels_of-end c).In-Ok-gathered))
