@@ -1,5 +1,5 @@
 -- What a step leaves: the chain that is the front of some links, with a left side in the place of one of them.
-use Rattle.std.specs.Prelude.{true, false, List, ◌++◌, ◌≡◌, ℕ, suc, ◌+◌, ◌-◌, ◌≤◌, length, take, drop}
+use Rattle.std.specs.Prelude.{true, false, List, Option, MatchOption, ◌++◌, ◌≡◌, ℕ, suc, ◌+◌, ◌-◌, ◌≤◌, length, take, drop}
 use Rattle.roles.specs.Role.{Chain}
 use Rattle.roles.specs.Rule.{Rule}
 use Rattle.derivation_steps.specs.declared.WrittenStep.{WrittenStep}
@@ -22,10 +22,14 @@ pub record Ready (table : List ℕ) (count : ℕ) (links : List ℕ) (size : ℕ
   pub room : length links ≡ 16
   pub few : size ≤ 16
 
--- what a step leaves of a chain: no size where it is impossible, else the chain after it
-pub record Applied (count : ℕ) (rule : (number side : ℕ) → Rule) (t : WrittenStep) (w : Chain) (links' : List ℕ) (size' : ℕ) : Type 0 where
-  pub none : size' ≡ 0 → possible count rule t w ≡ false
-  pub some : 1 ≤ size' → possible count rule t w ≡ true
-  pub room : length links' ≡ 16
+-- a step that was taken on a chain: the first links, so many, are the chain after it
+pub record Taken (count : ℕ) (rule : (number side : ℕ) → Rule) (t : WrittenStep) (w : Chain) (links' : List ℕ) (size' : ℕ) : Type 0 where
+  pub possible : possible count rule t w ≡ true
+  pub some : 1 ≤ size'
   pub few : size' ≤ 16
-  pub chain : 1 ≤ size' → take size' links' ≡ replaced count rule t w
+  pub chain : take size' links' ≡ replaced count rule t w
+
+-- what a step leaves of a chain: no size where it is impossible, else the chain after it
+pub record Applied (count : ℕ) (rule : (number side : ℕ) → Rule) (t : WrittenStep) (w : Chain) (links' : List ℕ) (size' : Option ℕ) : Type 0 where
+  pub room : length links' ≡ 16
+  pub after : MatchOption size' (possible count rule t w ≡ false) (Taken count rule t w links')

@@ -52,35 +52,19 @@ fn follow(table: &[u8], header: Header, role: u8, chain: &[u8], steps: &[u8]) ->
     if steps.len() % 4 != 0 {
         return BookAnswer::Refused(BookQueryRefusal::Uneven);
     }
-    let rules = header.rules;
     let count = steps.len() / 4;
     let mut links = [0u8; 16];
     links[0] = role;
     let mut size = 1;
-    let mut k = 0;
-    while k < count {
-        size = apply(table, rules, step_of(steps, k), &mut links, size);
-        if size == 0 {
+    for k in 0..count {
+        let Some(next) = apply(table, header.rules, step_of(steps, k), &mut links, size) else {
             return BookAnswer::Refused(BookQueryRefusal::Impossible(k));
-        }
-        k += 1;
+        };
+        size = next;
     }
-    same(&links[..size], chain)
-}
-
-// Yes where two chains are the same.
-fn same(a: &[u8], b: &[u8]) -> BookAnswer
-    ensures { answers result ≡ ok (same_chain a.now b.now) }
-{
-    if a.len() != b.len() {
-        return BookAnswer::No;
+    if &links[..size] == chain {
+        BookAnswer::Yes
+    } else {
+        BookAnswer::No
     }
-    let mut i = 0;
-    while i < a.len() {
-        if a[i] != b[i] {
-            return BookAnswer::No;
-        }
-        i += 1;
-    }
-    BookAnswer::Yes
 }
