@@ -10,13 +10,14 @@ use Rattle.roles.specs.Rule.{Book, Rule}
 use Rattle.words.specs.Word.{word}
 use Rattle.derivation_steps.specs.WrittenSteps.{checked, completed, derivation}
 use Rattle.derivation_steps.specs.RunningLaws.{checked_agree}
+use Rattle.std.specs.Prelude.{Result as Checked}
+use Rattle.refusals.specs.declared.book_query.BookQueryRefusal.{BookQueryRefusal}
 use Rattle.book_header.specs.declared.Header.{Header}
 use Rattle.book_decoder.specs.Verdict.{header_of}
 use Rattle.book_questions.specs.ShortQuestion.{asked_book}
 use Rattle.book_questions.specs.ShortQuestionLaws.{asked}
 use Rattle.book_questions.specs.RuleTable.{rule_in, Tabled}
 use Rattle.book_questions.specs.Admission.{Admits, says}
-use Rattle.book_questions.specs.declared.Admission.{Admission}
 use Rattle.derivation_checker.specs.CheckedDerivation.{checked_derivation}
 use Rattle.derivation_checker.specs.CheckingRoom.{Roomy}
 
@@ -33,7 +34,7 @@ roomy_few s r w few enough b e = omega (arith, (asked s r w b e).book.count)
 pub roomy_all : (s : List ℕ) (r : ℕ) (w : Chain) {size : ℕ} → size ≡ 8192 → Roomy s r w size
 roomy_all s r w enough b e = let d = (asked s r w b e).book in omega (arith, d.count, d.count_most)
 
-module _ {s : List ℕ} {r : ℕ} {w : Chain} {table table' : List ℕ} {a : Admission} (h : Admits s r w table table' a) where
+module _ {s : List ℕ} {r : ℕ} {w : Chain} {table table' : List ℕ} {a : Checked Header BookQueryRefusal} (h : Admits s r w table table' a) where
   pub checked_refused : {cause value : ℕ} → says a ≡ refused cause value → (steps : List ℕ) → refused cause value ≡ checked_derivation s r w steps
   unfolding checked_derivation
   checked_refused e steps = rw (map_refused header_of (asked_book s r w) (sym e ∙ h.answer)) refl

@@ -13,7 +13,7 @@ ghost use Rattle.derivation_checker.specs.CheckingRoom.{Roomy};
 mod step;
 
 use book_decoder::Header;
-use book_questions::{Admission, BookAnswer, admit};
+use book_questions::admit;
 use derivation_steps::step_of;
 use refusals::BookQueryRefusal;
 use step::apply;
@@ -21,7 +21,7 @@ use words::word;
 
 // Whether some bytes, four for each step, are a derivation of a chain from a role by the rules of a book: the first refusal of causes 1 to 8,
 // 13, 14, 15 and 17; else yes or no.
-pub fn check(book: &[u8], role: u8, chain: &[u8], steps: &[u8]) -> BookAnswer
+pub fn check(book: &[u8], role: u8, chain: &[u8], steps: &[u8]) -> Result<bool, BookQueryRefusal>
     ensures { answers result ≡ checked_derivation book.now role chain.now steps.now }
 {
     if word(book, 6) <= 16 {
@@ -33,24 +33,33 @@ pub fn check(book: &[u8], role: u8, chain: &[u8], steps: &[u8]) -> BookAnswer
 }
 
 // The same with a table that has room for the completed rules of the book.
-fn check_in(book: &[u8], role: u8, chain: &[u8], steps: &[u8], table: &mut [u8]) -> BookAnswer
+fn check_in(
+    book: &[u8],
+    role: u8,
+    chain: &[u8],
+    steps: &[u8],
+    table: &mut [u8],
+) -> Result<bool, BookQueryRefusal>
     requires { Roomy book.now role chain.now (length table.old) }
     ensures { answers result ≡ checked_derivation book.now role chain.now steps.now }
 {
-    let admission = admit(book, role, chain, table);
-    match admission {
-        Admission::Refused(refusal) => BookAnswer::Refused(refusal),
-        Admission::Admitted(header) => follow(table, header, role, chain, steps),
-    }
+    let header = admit(book, role, chain, table)?;
+    follow(table, header, role, chain, steps)
 }
 
 // Whether the steps lead from the role to the chain by the rules of a table, of a book with such a header.
-fn follow(table: &[u8], header: Header, role: u8, chain: &[u8], steps: &[u8]) -> BookAnswer
+fn follow(
+    table: &[u8],
+    header: Header,
+    role: u8,
+    chain: &[u8],
+    steps: &[u8],
+) -> Result<bool, BookQueryRefusal>
     requires { Rules table.now header.rules (2 * header.names) }
     ensures { answers result ≡ checked header.rules (rule_in table.now) role chain.now steps.now }
 {
     if steps.len() % 4 != 0 {
-        return BookAnswer::Refused(BookQueryRefusal::Uneven);
+        return Err(BookQueryRefusal::Uneven);
     }
     let count = steps.len() / 4;
     let mut links = [0u8; 16];
@@ -58,13 +67,9 @@ fn follow(table: &[u8], header: Header, role: u8, chain: &[u8], steps: &[u8]) ->
     let mut size = 1;
     for k in 0..count {
         let Some(next) = apply(table, header.rules, step_of(steps, k), &mut links, size) else {
-            return BookAnswer::Refused(BookQueryRefusal::Impossible(k));
+            return Err(BookQueryRefusal::Impossible(k));
         };
         size = next;
     }
-    if &links[..size] == chain {
-        BookAnswer::Yes
-    } else {
-        BookAnswer::No
-    }
+    Ok(&links[..size] == chain)
 }

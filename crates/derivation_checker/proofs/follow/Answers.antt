@@ -1,23 +1,11 @@
-use mathlib.Core.Bool.{Bool, ◌&&◌}
-use mathlib.Core.List.{[], ◌∷◌}
-use mathlib.Core.Path.{◌≡◌, refl, sym, ap, ◌∙◌}
+use mathlib.Core.Path.{sym, ap, ◌∙◌}
 use native.Mathlib.Omega.{arith}
-use lib.Dec.{eqb}
-use lib.Pointwise.{pointwise}
 use Rattle.base.specs.Result.Result.{ok}
-use Rattle.roles.specs.Role.{Chain, same_chain}
+use Rattle.roles.specs.ChainParts.{pointwise_same}
 use Rattle.book_questions.specs.RuleTable.{rule_in}
 use Rattle.derivation_steps.specs.RunningLaws.{checked_uneven}
 use Rattle.derivation_checker.specs.Following.{following_stop, following_next, following_end}
 use Rattle.derivation_checker.proofs.follow.Goals as goal
-
--- slices are compared as chains are
-compared : (w v : Chain) → pointwise eqb w v ≡ same_chain w v
-unfolding same_chain
-compared [] [] = refl
-compared [] (s ∷ v) = refl
-compared (r ∷ w) [] = refl
-compared (r ∷ w) (s ∷ v) = ap (λ (b : Bool). eqb r s && b) (compared w v)
 
 pub returns-then-steps-ne0 : goal.returns-then-steps-ne0
 returns-then-steps-ne0 c =
@@ -33,8 +21,5 @@ pub loop-k-preserved : goal.loop-k-preserved
 loop-k-preserved c =
     following_next c.loop-k.invariant (omega arith) (c.step_of.ensures.whole (omega arith)) c.apply.ensures.room c.in-Some.ensures.after
 
-pub returns-then-eq : goal.returns-then-eq
-returns-then-eq c = following_end c.loop-k.invariant (omega arith) _ (ap ok (sym c.if-eq.true ∙ c.eq.ensures ∙ compared _ _))
-
-pub returns-else-eq : goal.returns-else-eq
-returns-else-eq c = following_end c.loop-k.invariant (omega arith) _ (ap ok (sym c.if-eq.false ∙ c.eq.ensures ∙ compared _ _))
+pub returns : goal.returns
+returns c = following_end c.loop-k.invariant (omega arith) _ (ap ok (c.eq.ensures ∙ pointwise_same _ _))
