@@ -1,6 +1,6 @@
 -- The answer whole: a refused book and numbers of another length are left alone, and the three steps of filling together are the index.
 use mathlib.Core.List.{List, Memᴰ}
-use Rattle.std.specs.Prelude.{◌≡◌, refl, ℕ, ◌-◌, ◌<◌, ◌≤◌, length, get_or, replicate}
+use Rattle.std.specs.Prelude.{◌≡◌, refl, ℕ, ◌-◌, ◌<◌, ◌≤◌, length, get_or, replicate, Ok}
 use Rattle.std.proofs.Common.{sym, ap, ◌∙◌, subst, arith}
 use Rattle.roles.specs.Role.{name}
 use Rattle.roles.specs.Rule.{Rule, Book}
@@ -20,7 +20,6 @@ use Rattle.book_causes.specs.LevelsLaws.{Fitting, fits-same, levels-fitting}
 use Rattle.book_causes.specs.Ordered.{ordered}
 use Rattle.book_causes.specs.OrderedRun.{ordered-read}
 use Rattle.book_header.specs.declared.Header.{Header}
-use Rattle.book_decoder.specs.declared.verdict.Verdict.TheVariants.{WellFormed}
 use Rattle.book_decoder.specs.Verdict.{header_of, says}
 use Rattle.order_checker.specs.declared.Ordering.{Ordering}
 use Rattle.order_checker.specs.Gather.{Ordered}
@@ -119,7 +118,7 @@ module _ {s : List ℕ} {r : Ordering} (o : Ordered s r) where
         few = λ b q. absurd (refused-ok c n (header_of b) (sym e ∙ o.verdict ∙ ap (map_result header_of) q));
       }
 
-  module _ {h : Header} (w : r.verdict ≡ WellFormed h) where
+  module _ {h : Header} (w : r.verdict ≡ Ok h) where
     e : ok h ≡ map_result header_of (ordered s)
     e = sym (ap says w) ∙ o.verdict
 
@@ -139,7 +138,7 @@ module _ {s : List ℕ} {r : Ordering} (o : Ordered s r) where
     fitting : (b : Book) → ordered s ≡ ok b → Fitting r.levels b
     fitting b q = subst (λ (l : List ℕ). Fitting l b) (sym (o.levels ∙ ap (λ (t : Result Book). written t levels_of (replicate 64 0)) q)) (levels-fitting s b q (replicate 64 0))
 
-    pub indexes_other : {old : List ℕ} → (length old ≡ 3904 → ⊥) → Indexes s old old (record { verdict = WellFormed h; depth = r.depth })
+    pub indexes_other : {old : List ℕ} → (length old ≡ 3904 → ⊥) → Indexes s old old (record { verdict = Ok h; depth = r.depth })
     indexes_other x =
         record {
           verdict = e;
@@ -158,7 +157,7 @@ module _ {s : List ℕ} {r : Ordering} (o : Ordered s r) where
       linkable = (passed.0.rules, linkable_book passed.0 passed.1)
 
       pub indexes_filled : {old : List ℕ} → length old ≡ 3904 → {new : List ℕ} → ((ρs : List Rule) → Linkable ρs h.rules started → Linking ρs 0 started new)
-          → Indexes s old new (record { verdict = WellFormed h; depth = r.depth })
+          → Indexes s old new (record { verdict = Ok h; depth = r.depth })
       indexes_filled {old} z {new} k =
           record {
             verdict = e;

@@ -8,16 +8,17 @@ ghost use Rattle.roles.specs.Rule.{Rule};
 ghost use Rattle.rule_index.specs.Filling.{Ruled, Entered, Entering, Started, Linkable, Linking};
 ghost use Rattle.rule_index.specs.Indexes.{Indexes};
 
-use book_cursor::{Cursor, Step};
-use book_decoder::Verdict;
+use book_cursor::Cursor;
+use book_decoder::Header;
 use order_checker::order;
+use refusals::BookRefusal;
 use role_bytes::name;
 use rule_shapes::{numbers_of, shape_of};
 
 // The verdict on a book by causes 1 to 8, and its depth: 0 where it is refused.
 #[derive(Clone, Copy)]
 pub struct Indexing {
-    pub verdict: Verdict,
+    pub verdict: Result<Header, BookRefusal>,
     pub depth: usize,
 }
 
@@ -29,27 +30,15 @@ pub fn index(book: &[u8], index: &mut [u16]) -> Indexing
     let ordering = order(book);
     let verdict = ordering.verdict;
     let depth = ordering.depth;
-    let Verdict::WellFormed(header) = verdict else {
-        return Indexing {
-            verdict: verdict,
-            depth: depth,
-        };
+    let Ok(header) = verdict else {
+        return Indexing { verdict, depth };
     };
-    if index.len() != 3904 {
-        return Indexing {
-            verdict: verdict,
-            depth: depth,
-        };
+    if index.len() == 3904 {
+        enter(book, header.rules, index);
+        start(&ordering.levels, index);
+        link(header.rules, index);
     }
-    let rules = header.rules;
-    let levels = ordering.levels;
-    enter(book, rules, index);
-    start(&levels, index);
-    link(rules, index);
-    Indexing {
-        verdict: verdict,
-        depth: depth,
-    }
+    Indexing { verdict, depth }
 }
 
 // Enters the rules, one after another.
@@ -58,16 +47,13 @@ fn enter(book: &[u8], rules: usize, index: &mut [u16])
     ensures { Entering book.now rules index.new }
 {
     let mut cursor = Cursor::first();
-    let mut k = 0;
-    while k < rules {
-        let Step::Rule(entry, after) = cursor.step(book) else {
+    for k in 0..rules {
+        let Some((entry, next)) = cursor.step(book) else {
             return; // not reached: the book is well-formed
         };
-        let start = entry.start;
-        let end = start + entry.size;
-        enter_rule(&book[start..end], entry.right, k, index);
-        cursor = after;
-        k += 1;
+        let left = &book[entry.start..entry.start + entry.size];
+        enter_rule(left, entry.right, k, index);
+        cursor = next;
     }
 }
 

@@ -1,5 +1,7 @@
 -- From the answer of the index to what a build promises.
-use Rattle.std.specs.Prelude.{List, ◌≡◌, refl, ℕ, ◌<◌, ◌≤◌, length}
+use Rattle.std.specs.Prelude.{List, ◌≡◌, refl, ℕ, ◌<◌, ◌≤◌, length, Ok, Err}
+use Rattle.std.specs.Prelude.{Result as Verdict}
+use Rattle.refusals.specs.declared.build.BuildRefusal.{BuildRefusal}
 use Rattle.std.proofs.Common.{sym, ap, ◌∙◌, arith}
 use Rattle.roles.specs.Rule.{Rule, Book}
 use Rattle.base.specs.Result.{Result, map_result}
@@ -11,10 +13,8 @@ use Rattle.book_causes.specs.Ordered as Ordered
 use Rattle.book_causes.specs.OrderedRun.{ordered-read}
 use Rattle.book_causes.specs.AcceptedLaws.{accepted-refused, accepted-passed, built-refused, built-accepted}
 use Rattle.refusals.specs.declared.book.BookRefusal.{BookRefusal}
-use Rattle.refusals.specs.declared.build.BuildRefusal.TheVariants as BuildRefusal
+use Rattle.refusals.specs.declared.build.BuildRefusal.TheVariants.{Book as ByBook}
 use Rattle.book_header.specs.declared.Header.{Header}
-use Rattle.book_decoder.specs.declared.verdict.Verdict.{Verdict}
-use Rattle.book_decoder.specs.declared.verdict.Verdict.TheVariants.{WellFormed, Refused}
 use Rattle.refusals.specs.BookRefusals.{book_cause, book_value}
 use Rattle.book_decoder.specs.Verdict.{header_of, says}
 use Rattle.rule_index.specs.declared.Indexing.{Indexing}
@@ -26,11 +26,9 @@ use Rattle.table_builder.specs.Builds.{counts_of, Answers, Checked, Prepared, Bu
 use Rattle.table_builder.specs.CountedLaws.{judged, builds_refused, builds_laid}
 use Rattle.table_writer.specs.declared.Place.{Place}
 use Rattle.table_limits.specs.declared.Counts.{Counts}
-use Rattle.table_limits.specs.declared.Outcome.{Outcome}
-use Rattle.table_limits.specs.declared.Outcome.TheVariants as outcome
 
 -- what is said of a book that was indexed and counted
-abbrev said : Indexing → Place → (heads moves : ℕ) → Outcome
+abbrev said : Indexing → Place → (heads moves : ℕ) → Verdict Counts BuildRefusal
 said i end heads moves = settled i.verdict end.state end.count i.depth heads moves
 
 pub checked : {s old ix : List ℕ} {i : Indexing} → length old ≡ 3904 → Indexes s old ix i → Checked s ix i
@@ -51,7 +49,7 @@ module _ {s ix : List ℕ} {i : Indexing} (a : Checked s ix i) where
       }
 
   -- by its header
-  prepared : (h : Header) → i.verdict ≡ WellFormed h → Prepared s ix h.names
+  prepared : (h : Header) → i.verdict ≡ Ok h → Prepared s ix h.names
   prepared h e = by_result (Ordered.ordered s) refl (sym (ap says e) ∙ a.2.verdict)
     where
       by_result : (r : Result Book) → Ordered.ordered s ≡ r → ok h ≡ map_result header_of (Ordered.ordered s) → Prepared s ix h.names
@@ -59,7 +57,7 @@ module _ {s ix : List ℕ} {i : Indexing} (a : Checked s ix i) where
       by_result (ok b) f g = prepare b f h.names (ap (λ (x : Header). x.names) (ok_injective h (header_of b) (g ∙ ap (map_result header_of) f)))
 
   -- a book that is refused
-  refused-answers : (heads moves : ℕ) (r : BookRefusal) → i.verdict ≡ Refused r → Answers s heads moves (outcome.Refused (BuildRefusal.Book r))
+  refused-answers : (heads moves : ℕ) (r : BookRefusal) → i.verdict ≡ Err r → Answers s heads moves (Err (ByBook r))
   refused-answers heads moves r e =
       rw (built-refused s heads moves (book_cause r) (book_value r)
       (accepted-refused s (book_cause r) (book_value r) (by_result (Ordered.ordered s) refl (sym (ap says e) ∙ a.2.verdict)))) refl
@@ -76,27 +74,27 @@ module _ {s ix : List ℕ} {i : Indexing} (a : Checked s ix i) where
     pub count-ready : (0 < names → (ρs : List Rule) × Indexed ρs ix) × (names ≤ 64)
     count-ready = by-verdict i.verdict refl e
       where
-        by-verdict : (w : Verdict) → i.verdict ≡ w → names ≡ names_of w → (0 < names → (ρs : List Rule) × Indexed ρs ix) × (names ≤ 64)
-        by-verdict (WellFormed h) f g = let p = prepared h f in (λ _. (p.book.rules, p.index), rw g p.few)
-        by-verdict (Refused r) f g = (λ l. absurd (let d : ⊥ = omega arith in d), omega arith)
+        by-verdict : (w : Verdict Header BookRefusal) → i.verdict ≡ w → names ≡ names_of w → (0 < names → (ρs : List Rule) × Indexed ρs ix) × (names ≤ 64)
+        by-verdict (Ok h) f g = let p = prepared h f in (λ _. (p.book.rules, p.index), rw g p.few)
+        by-verdict (Err r) f g = (λ l. absurd (let d : ⊥ = omega arith in d), omega arith)
 
     answers : {end : Place} → ((ρs : List Rule) → Indexed ρs ix → (fuel : ℕ) → Enough ix names fuel → Counted ρs fuel names end) → (heads moves : ℕ)
         → Answers s heads moves (said i end heads moves)
     answers {end} c heads moves = by-verdict i.verdict refl e
       where
-        by-verdict : (w : Verdict) → i.verdict ≡ w → names ≡ names_of w → Answers s heads moves (settled w end.state end.count i.depth heads moves)
-        by-verdict (WellFormed h) g n =
+        by-verdict : (w : Verdict Header BookRefusal) → i.verdict ≡ w → names ≡ names_of w → Answers s heads moves (settled w end.state end.count i.depth heads moves)
+        by-verdict (Ok h) g n =
             let p = prepared h g in
             let deep = a.2.depth ∙ ap (count_or_none depth_of) p.ordered in
             judged s ix h.names p deep end (c' p.book.rules p.index p.book.names p.levels) heads moves
           where
             c' : (ρs : List Rule) → Indexed ρs ix → (fuel : ℕ) → Enough ix h.names fuel → Counted ρs fuel h.names end
             c' = rw n at c
-        by-verdict (Refused r) g n = refused-answers heads moves r g
+        by-verdict (Err r) g n = refused-answers heads moves r g
 
   -- a book that is built, by its counts
   module _ (heads moves : ℕ) where
-    counted : (c : Counts) → Answers s heads moves (outcome.Built c) → Prepared s ix c.names
+    counted : (c : Counts) → Answers s heads moves (Ok c) → Prepared s ix c.names
     counted c e = by_result (built s heads moves) refl e
       where
         by_result : (r : Result Book) → built s heads moves ≡ r → ok c ≡ map_result counts_of r → Prepared s ix c.names
@@ -104,16 +102,16 @@ module _ {s ix : List ℕ} {i : Indexing} (a : Checked s ix i) where
         by_result (ok b) f g =
             prepare b (accepted-passed s b (built-accepted s heads moves b f)).ordered c.names (ap (λ (x : Counts). x.names) (ok_injective c (counts_of b) g))
 
-    roots-ready : (x : Outcome) → Answers s heads moves x → {n : ℕ} → n ≡ names_in x → (0 < n → (ρs : List Rule) × Indexed ρs ix) × (n ≤ 64)
-    roots-ready (outcome.Built c) e f = let p = counted c e in (λ _. (p.book.rules, p.index), rw f p.few)
-    roots-ready (outcome.Refused x) e f = (λ h. absurd (let g : ⊥ = omega arith in g), omega arith)
+    roots-ready : (x : Verdict Counts BuildRefusal) → Answers s heads moves x → {n : ℕ} → n ≡ names_in x → (0 < n → (ρs : List Rule) × Indexed ρs ix) × (n ≤ 64)
+    roots-ready (Ok c) e f = let p = counted c e in (λ _. (p.book.rules, p.index), rw f p.few)
+    roots-ready (Err x) e f = (λ h. absurd (let g : ⊥ = omega arith in g), omega arith)
 
-  builds : {h m : List ℕ} (x : Outcome) → Answers s (length h) (length m) x → {q : Place} {h' m' : List ℕ} {n : ℕ} → n ≡ names_in x
+  builds : {h m : List ℕ} (x : Verdict Counts BuildRefusal) → Answers s (length h) (length m) x → {q : Place} {h' m' : List ℕ} {n : ℕ} → n ≡ names_in x
       → Rooted ix n q h h' m m' → Builds s h m h' m' x
-  builds {h} {m} (outcome.Built c) e {q} {h'} {m'} f r =
+  builds {h} {m} (Ok c) e {q} {h'} {m'} f r =
       let p = counted (length h) (length m) c e in
       builds_laid s ix c.names p h m c e q h' m' ((rw f at r).roots p.book.rules p.index p.book.names p.levels)
-  builds {h} {m} (outcome.Refused x) e f r = rw ((r.none f).0, (r.none f).1) (builds_refused s h m x e)
+  builds {h} {m} (Err x) e f r = rw ((r.none f).0, (r.none f).1) (builds_refused s h m x e)
 
   -- what laying asks for, and what a build has done, by the counts
   module _ {names : ℕ} (e : names ≡ names_of i.verdict) {end : Place} (c : (ρs : List Rule) → Indexed ρs ix → (fuel : ℕ) → Enough ix names fuel → Counted ρs fuel names end) where
@@ -121,6 +119,6 @@ module _ {s ix : List ℕ} {i : Indexing} (a : Checked s ix i) where
         → (0 < n → (ρs : List Rule) × Indexed ρs ix) × (n ≤ 64)
     laying_ready heads moves f = roots-ready heads moves (said i end heads moves) (answers e c heads moves) f
 
-    pub builds_settled : {h m : List ℕ} {x : Outcome} → x ≡ said i end (length h) (length m) → {q : Place} {h' m' : List ℕ} {n : ℕ}
+    pub builds_settled : {h m : List ℕ} {x : Verdict Counts BuildRefusal} → x ≡ said i end (length h) (length m) → {q : Place} {h' m' : List ℕ} {n : ℕ}
         → n ≡ names_in (said i end (length h) (length m)) → Rooted ix n q h h' m m' → Builds s h m h' m' x
     builds_settled {h} {m} k f r = rw k (builds (said i end (length h) (length m)) (answers e c (length h) (length m)) f r)

@@ -1,5 +1,5 @@
 -- From what was counted and then laid to what a build promises.
-use Rattle.std.specs.Prelude.{Bool, cond, ◌&&◌, List, ◌⊎◌, ◌≡◌, ℕ, ◌*◌, ◌<◌, ◌≤◌, length}
+use Rattle.std.specs.Prelude.{Bool, cond, ◌&&◌, List, ◌⊎◌, ◌≡◌, ℕ, ◌*◌, ◌<◌, ◌≤◌, length, Ok, Err}
 use Rattle.std.proofs.Math.Bool.{true, false}
 use Rattle.std.proofs.Common.{inl, inr, sym, ap, ◌∙◌, subst, arith, leb-true, leb-false}
 use Rattle.std.proofs.Math.Path.{refl}
@@ -20,17 +20,16 @@ use Rattle.refusals.specs.declared.build.BuildRefusal.{BuildRefusal}
 use Rattle.refusals.specs.declared.build.BuildRefusal.TheVariants.{States, Transitions, Short}
 use Rattle.refusals.specs.BuildRefusals.{build_cause, build_value}
 use Rattle.table_limits.specs.declared.Counts.{Counts}
-use Rattle.table_limits.specs.declared.Outcome.TheVariants.{Built, Refused}
 use Rattle.table_limits.specs.Limits.{limited}
 use Rattle.table_writer.specs.declared.Place.{Place}
 use Rattle.table_builder.specs.Lay.{Counted, Roots}
 use Rattle.table_builder.specs.Builds.{counts_of, says, Answers, Prepared, Builds}
 
 -- a refusal changes nothing
-pub builds_refused : (s h m : List ℕ) (x : BuildRefusal) → Answers s (length h) (length m) (Refused x) → Builds s h m h m (Refused x)
+pub builds_refused : (s h m : List ℕ) (x : BuildRefusal) → Answers s (length h) (length m) (Err x) → Builds s h m h m (Err x)
 builds_refused s h m x e = by_result (built s (length h) (length m)) refl e
   where
-    by_result : (r : Result Book) → built s (length h) (length m) ≡ r → says (Refused x) ≡ map_result counts_of r → Builds s h m h m (Refused x)
+    by_result : (r : Result Book) → built s (length h) (length m) ≡ r → says (Err x) ≡ map_result counts_of r → Builds s h m h m (Err x)
     by_result (refused c v) f g = record { answer = e; heads = rw f refl; moves = rw f refl }
     by_result (ok b) f g = absurd (refused-ok (build_cause x) (build_value x) (counts_of b) g)
 
@@ -55,7 +54,7 @@ module _ (s ix : List ℕ) (names : ℕ) (p : Prepared s ix names) where
     fits h (inr k) = k
 
     -- cause 9
-    judged-states : 2048 < r.state → Answers s heads moves (Refused States)
+    judged-states : 2048 < r.state → Answers s heads moves (Err States)
     judged-states h =
         rw (built-refused s heads moves 9 0 (accepted-states s p.book p.ordered (too_large h (lt_or_le 2048 (states_of p.book))))) refl
 
@@ -67,7 +66,7 @@ module _ (s ix : List ℕ) (names : ℕ) (p : Prepared s ix names) where
       same_count = own.count whole (omega (arith, few whole))
 
       -- cause 10
-      judged-transitions : 5120 < r.count → Answers s heads moves (Refused Transitions)
+      judged-transitions : 5120 < r.count → Answers s heads moves (Err Transitions)
       judged-transitions h = rw (built-refused s heads moves 10 0 (accepted-count s p.book p.ordered whole (rw (← same_count) h))) refl
 
       module _ (short : r.count ≤ 5120) where
@@ -75,10 +74,10 @@ module _ (s ix : List ℕ) (names : ℕ) (p : Prepared s ix names) where
         accepts = accepted-ok s p.book p.ordered whole (rw (← same_count) short)
 
         -- cause 11
-        judged-short : (leb names heads && leb (3 * r.count) moves) ≡ false → Answers s heads moves (Refused Short)
+        judged-short : (leb names heads && leb (3 * r.count) moves) ≡ false → Answers s heads moves (Err Short)
         judged-short h = rw (built-short s heads moves p.book accepts (rw (← same_count, ← p.same) h)) refl
 
-        judged-built : (leb names heads && leb (3 * r.count) moves) ≡ true → Answers s heads moves (Built counts)
+        judged-built : (leb names heads && leb (3 * r.count) moves) ≡ true → Answers s heads moves (Ok counts)
         judged-built h =
             let enough = leb-true names heads (and_left (leb names heads) (leb (3 * r.count) moves) h) in
             let room = leb-true (3 * r.count) moves (and_right (leb names heads) (leb (3 * r.count) moves) h) in
@@ -90,29 +89,29 @@ module _ (s ix : List ℕ) (names : ℕ) (p : Prepared s ix names) where
     judged = by-states (leb r.state 2048) refl
       where
         by-lent : (small : r.state ≤ 2048) → r.count ≤ 5120 → (t : Bool) → (leb names heads && leb (3 * r.count) moves) ≡ t
-            → Answers s heads moves (cond t (Built counts) (Refused Short))
+            → Answers s heads moves (cond t (Ok counts) (Err Short))
         by-lent small short true h = judged-built small short h
         by-lent small short false h = judged-short small short h
 
         by_count : r.state ≤ 2048 → (t : Bool) → leb r.count 5120 ≡ t
-            → Answers s heads moves (cond t (cond (leb names heads && leb (3 * r.count) moves) (Built counts) (Refused Short)) (Refused Transitions))
+            → Answers s heads moves (cond t (cond (leb names heads && leb (3 * r.count) moves) (Ok counts) (Err Short)) (Err Transitions))
         by_count small true h = by-lent small (leb-true r.count 5120 h) (leb names heads && leb (3 * r.count) moves) refl
         by_count small false h = judged-transitions small (leb-false r.count 5120 h)
 
         by-states : (t : Bool) → leb r.state 2048 ≡ t
-            → Answers s heads moves (cond t (cond (leb r.count 5120) (cond (leb names heads && leb (3 * r.count) moves) (Built counts) (Refused Short)) (Refused Transitions)) (Refused States))
+            → Answers s heads moves (cond t (cond (leb r.count 5120) (cond (leb names heads && leb (3 * r.count) moves) (Ok counts) (Err Short)) (Err Transitions)) (Err States))
         by-states true h = by_count (leb-true r.state 2048 h) (leb r.count 5120) refl
         by-states false h = judged-states (leb-false r.state 2048 h)
 
   -- tables laid in the lent ones are what a build promises
-  pub builds_laid : (h m : List ℕ) (c : Counts) → Answers s (length h) (length m) (Built c) → (q : Place) (h' m' : List ℕ)
-      → Roots p.book.rules p.book.names names q h h' m m' → Builds s h m h' m' (Built c)
+  pub builds_laid : (h m : List ℕ) (c : Counts) → Answers s (length h) (length m) (Ok c) → (q : Place) (h' m' : List ℕ)
+      → Roots p.book.rules p.book.names names q h h' m m' → Builds s h m h' m' (Ok c)
   builds_laid h m c e q h' m' v = by_result (built s (length h) (length m)) refl e
     where
       laid : Roots p.book.rules p.book.names p.book.names q h h' m m'
       laid = subst (λ (k : ℕ). Roots p.book.rules p.book.names k q h h' m m') p.same v
 
-      written-here : built s (length h) (length m) ≡ ok p.book → Builds s h m h' m' (Built c)
+      written-here : built s (length h) (length m) ≡ ok p.book → Builds s h m h' m' (Ok c)
       written-here f =
           let passed = accepted-passed s p.book (built-accepted s (length h) (length m) p.book f) in
           let size = length-roots p.book.rules p.book.names p.book.names 0 0 in
@@ -125,7 +124,7 @@ module _ (s ix : List ℕ) (names : ℕ) (p : Prepared s ix names) where
                 ∙ sets_over (moves_of p.book) m (rw length-numbers (enough_moves s (length h) (length m) p.book f)));
           }
 
-      by_result : (r : Result Book) → built s (length h) (length m) ≡ r → says (Built c) ≡ map_result counts_of r → Builds s h m h' m' (Built c)
+      by_result : (r : Result Book) → built s (length h) (length m) ≡ r → says (Ok c) ≡ map_result counts_of r → Builds s h m h' m' (Ok c)
       by_result (refused cause value) f g = absurd (refused-ok cause value c (sym g))
       by_result (ok b) f g =
           let o = (accepted-passed s b (built-accepted s (length h) (length m) b f)).ordered in

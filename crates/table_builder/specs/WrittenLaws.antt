@@ -1,6 +1,7 @@
 -- What a build that succeeds has written: the tables of the book, at the front of the lent ones; and that an accepted book's build succeeds where
 -- these are long enough.
-use Rattle.std.specs.Prelude.{List, [], ◌≡◌, refl, ℕ, ◌*◌, ◌≤◌, length, take}
+use Rattle.std.specs.Prelude.{List, [], ◌≡◌, refl, ℕ, ◌*◌, ◌≤◌, length, take, Ok, Err}
+use Rattle.std.specs.Prelude.{Result as Outcome}
 use Rattle.std.proofs.Common.{sym, ap, ◌∙◌, arith}
 use Rattle.base.specs.Writing.{over}
 use Rattle.base.specs.WritingLaws.{over-length, over-front}
@@ -15,8 +16,6 @@ use Rattle.table_laying.specs.Pieces.{length-numbers, length-roots}
 use Rattle.refusals.specs.declared.build.BuildRefusal.{BuildRefusal}
 use Rattle.refusals.specs.BuildRefusals.{build_cause, build_value}
 use Rattle.table_limits.specs.declared.Counts.{Counts}
-use Rattle.table_limits.specs.declared.Outcome.{Outcome}
-use Rattle.table_limits.specs.declared.Outcome.TheVariants.{Built, Refused}
 use Rattle.table_builder.specs.Builds.{counts_of, says, Builds}
 
 -- the book that a build has counted
@@ -30,14 +29,14 @@ counted_none : Book
 counted_none = record { names = 0; rules = [] }
 
 module _ {s h m h' m' : List ℕ} where
-  pub counted : {c : Counts} → Builds s h m h' m' (Built c) → Counted s h m c
+  pub counted : {c : Counts} → Builds s h m h' m' (Ok c) → Counted s h m c
   counted {c} p = by_result (built s (length h) (length m)) refl p.answer
     where
       by_result : (r : Result Book) → built s (length h) (length m) ≡ r → ok c ≡ map_result counts_of r → Counted s h m c
       by_result (refused cause value) e f = absurd (refused-ok cause value c (sym f))
       by_result (ok b) e f = record { book = b; accepts = e; same = ok_injective c (counts_of b) f }
 
-  module _ {c : Counts} (p : Builds s h m h' m' (Built c)) where
+  module _ {c : Counts} (p : Builds s h m h' m' (Ok c)) where
     pub own : Counted s h m c
     own = counted p
 
@@ -88,21 +87,21 @@ module _ {s h m h' m' : List ℕ} where
         ∙ over-front (3 * c.transitions) (moves_of own.book) m (ap (λ (k : ℕ). 3 * k) count ∙ sym three)
 
   -- a build that is refused says why
-  pub refused-by : {x : BuildRefusal} → Builds s h m h' m' (Refused x) → built s (length h) (length m) ≡ refused (build_cause x) (build_value x)
+  pub refused-by : {x : BuildRefusal} → Builds s h m h' m' (Err x) → built s (length h) (length m) ≡ refused (build_cause x) (build_value x)
   refused-by {x} p = by_result (built s (length h) (length m)) p.answer
     where
-      by_result : (t : Result Book) → says (Refused x) ≡ map_result counts_of t → t ≡ refused (build_cause x) (build_value x)
+      by_result : (t : Result Book) → says (Err x) ≡ map_result counts_of t → t ≡ refused (build_cause x) (build_value x)
       by_result (refused cause value) f = sym (ap (map_result (λ (k : Counts). counted_none)) f)
       by_result (ok b) f = absurd (refused-ok (build_cause x) (build_value x) (counts_of b) f)
 
 -- a build tells the counts of a book, and two tables begin with the book's
-pub record TablesOf (b : Book) (h m : List ℕ) (r : Outcome) : Type 0 where
-  pub answer : r ≡ Built (counts_of b)
+pub record TablesOf (b : Book) (h m : List ℕ) (r : Outcome Counts BuildRefusal) : Type 0 where
+  pub answer : r ≡ Ok (counts_of b)
   pub heads : take b.names h ≡ heads_of b
   pub moves : take (3 * count_of b) m ≡ moves_of b
 
 -- an accepted book is built where the lent tables are long enough: its counts are told, and its tables stand at the fronts of the lent ones
-pub accepted-written : (s h m h' m' : List ℕ) (r : Outcome) (b : Book) → Builds s h m h' m' r → accepted s ≡ ok b → b.names ≤ length h
+pub accepted-written : (s h m h' m' : List ℕ) (r : Outcome Counts BuildRefusal) (b : Book) → Builds s h m h' m' r → accepted s ≡ ok b → b.names ≤ length h
     → 3 * count_of b ≤ length m → TablesOf b h' m' r
 accepted-written s h m h' m' r b p a long_heads long_moves =
     record {
@@ -118,6 +117,6 @@ accepted-written s h m h' m' r b p a long_heads long_moves =
     e : built s (length h) (length m) ≡ ok b
     e = accepted-built s (length h) (length m) b a long_heads long_moves
 
-    by_answer : (r : Outcome) → says r ≡ ok (counts_of b) → r ≡ Built (counts_of b)
-    by_answer (Built c) f = ap Built (ok_injective c (counts_of b) f)
-    by_answer (Refused x) f = absurd (refused-ok (build_cause x) (build_value x) (counts_of b) f)
+    by_answer : (r : Outcome Counts BuildRefusal) → says r ≡ ok (counts_of b) → r ≡ Ok (counts_of b)
+    by_answer (Ok c) f = ap Ok (ok_injective c (counts_of b) f)
+    by_answer (Err x) f = absurd (refused-ok (build_cause x) (build_value x) (counts_of b) f)

@@ -7,12 +7,13 @@ mod lay;
 mod memo;
 
 use lay::{count, roots};
-pub use table_limits::{Counts, Outcome};
+use refusals::BuildRefusal;
+pub use table_limits::Counts;
 use table_limits::{names_laid, names_of, settle};
 
 // Builds the tables of a book: the first numbers of heads and moves are written, all others kept; a refusal changes neither. The tables are
 // counted first, to learn their sizes, and then laid in the lent memory; of a book that is refused no name is.
-pub fn build(book: &[u8], heads: &mut [u16], moves: &mut [u16]) -> Outcome
+pub fn build(book: &[u8], heads: &mut [u16], moves: &mut [u16]) -> Result<Counts, BuildRefusal>
     ensures { Builds book.now heads.old moves.old heads.new moves.new result }
 {
     let mut index = [0u16; 3904];

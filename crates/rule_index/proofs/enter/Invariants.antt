@@ -1,13 +1,8 @@
 -- `enter` meets its contract. The invariant: the cursor is at rule `k`, and the rules before it are entered.
 use mathlib.Core.Path.{◌≡◌}
-use Prim.Native.Nat.{◌≤◌, ◌-◌}
-use borrow.Author.Rules.{rules}
 use Rattle.book_format.specs.Place.{rule_place}
 use Rattle.rule_index.specs.Filling.{Entering}
 use Rattle.rule_index.proofs.enter.Given as goal
 
 abbrev pub invariant-loop-k : goal.invariant-loop-k
-invariant-loop-k l = (l.k ≤ l.rules) × (l.cursor.at ≡ rule_place l.book l.k) × Entering l.book l.k l.index
-
-abbrev pub decreases-loop-k : goal.decreases-loop-k
-decreases-loop-k l = l.rules - l.k
+invariant-loop-k l = (l.cursor.at ≡ rule_place l.book l.k) × Entering l.book l.k l.index
