@@ -21,16 +21,14 @@ use Rattle.derivation_charts.specs.Chart.{starts_of}
 use Rattle.book_questions.specs.ShortQuestion.{asked_book}
 use Rattle.book_questions.specs.ShortQuestionLaws.{asked}
 use Rattle.book_questions.specs.RuleTable.{rule_in}
-use Rattle.book_questions.specs.declared.Admission.{Admission}
-use Rattle.book_questions.specs.declared.Admission.TheVariants.{Admitted, Refused as Refused-admission}
+use Rattle.std.specs.Prelude.{Some, None, Ok, Err}
+use Rattle.std.specs.Prelude.{Result as Checked}
 use Rattle.book_questions.specs.Admission.{says}
 use Rattle.derivation_search.specs.Searched.{Searched, Searches}
-use Rattle.derivation_writer.specs.WritesDerivation.{lent_enough, writable, Writes}
+use Rattle.derivation_writer.specs.WritesDerivation.{Derivation, lent_enough, writable, Writes}
 use Rattle.derivation_writer.specs.WritingStages.{Roomy, SearchedFor, Gives}
 use Rattle.derivation_writer.specs.WritesDerivation.Writes.{refuses, no, steps}
 use Rattle.derivation_writer.specs.Tracing.{Ready, Traced}
-use Rattle.derivation_writer.specs.declared.Derivation.TheVariants.{Steps, None, Refused}
-use Rattle.derivation_writer.specs.declared.Derivation.{Derivation}
 
 -- what a search finds, for a writer
 abbrev pub searched_ready : {ρs : List Rule} {roles : ℕ} {w : Chain} {table chart : List ℕ} → Searched ρs roles w table chart → Ready table w chart
@@ -43,19 +41,19 @@ searched-derivation {ρs} {roles} {w} {table} q r v h = sym (checked_agree (leng
 
 -- for a book that is asked
 module _ (b : Book) (r : ℕ) (w : Chain) (old : List ℕ) where
-  pub gives_buffer : length old < 16384 → Gives b r w old old (Refused Buffer)
+  pub gives_buffer : length old < 16384 → Gives b r w old old (Err Buffer)
   gives_buffer h = refuses Buffer (rw (lt-leb 16384 (length old) h) refl)
 
   module _ (room : 16384 ≤ length old) {table chart : List ℕ} (q : Searched b.rules (2 * b.names) w table chart) where
     lent : lent_enough (length old) b ≡ ok b
     lent = rw (le-leb 16384 (length old) room) refl
 
-    pub gives_none : has (starts_of chart (length w - 0) r) 0 ≡ false → Gives b r w old old None
+    pub gives_none : has (starts_of chart (length w - 0) r) 0 ≡ false → Gives b r w old old (Ok None)
     gives_none h = no b lent (λ d. true≢false (sym (q.complete r d) ∙ h))
 
-    pub gives-steps : {new : List ℕ} {n : ℕ} → Traced (searched_ready q) r old new n → Gives b r w old new (Steps n)
+    pub gives-steps : {new : List ℕ} {n : ℕ} → Traced (searched_ready q) r old new n → Gives b r w old new (Ok (Some n))
     gives-steps {new} {n} t =
-        subst (λ (l : List ℕ). Gives b r w old l (Steps n)) (sym whole) (steps b lent (take (4 * n) new) n front t.few derived)
+        subst (λ (l : List ℕ). Gives b r w old l (Ok (Some n))) (sym whole) (steps b lent (take (4 * n) new) n front t.few derived)
       where
         front : length (take (4 * n) new) ≡ 4 * n
         front = length-take-le (4 * n) new (omega (arith, t.few, t.size))
@@ -86,14 +84,14 @@ writable-from : (s : List ℕ) (r : ℕ) (w : Chain) (lent : ℕ) (x : Result Bo
 unfolding writable
 writable-from s r w lent x e = ap (λ (y : Result Book). and_then y (lent_enough lent)) e
 
-module _ {s : List ℕ} {r : ℕ} {w : Chain} {table table' chart chart' : List ℕ} {a : Admission} (q : Searches s r w table table' chart chart' a) where
-  pub writes-refused : {refusal : BookQueryRefusal} → a ≡ Refused-admission refusal → (old : List ℕ)
-      → Writes (writable (length old) s r w) r w old old (Refused refusal)
+module _ {s : List ℕ} {r : ℕ} {w : Chain} {table table' chart chart' : List ℕ} {a : Checked Header BookQueryRefusal} (q : Searches s r w table table' chart chart' a) where
+  pub writes-refused : {refusal : BookQueryRefusal} → a ≡ Err refusal → (old : List ℕ)
+      → Writes (writable (length old) s r w) r w old old (Err refusal)
   writes-refused {refusal} e old =
       refuses refusal
       (writable-from s r w (length old) _ (map_refused header_of (asked_book s r w) (ap says (sym e) ∙ q.admits.answer)))
 
-  module _ (room : Roomy s (length table) (length chart)) {header : Header} (e : a ≡ Admitted header) where
+  module _ (room : Roomy s (length table) (length chart)) {header : Header} (e : a ≡ Ok header) where
     book : (b : Book) × (asked_book s r w ≡ ok b) × (header ≡ header_of b)
     book = map_ok header_of (asked_book s r w) (ap says (sym e) ∙ q.admits.answer)
 

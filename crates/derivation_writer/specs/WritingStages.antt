@@ -4,8 +4,7 @@ use Rattle.roles.specs.Role.{Chain}
 use Rattle.roles.specs.Rule.{Book}
 use Rattle.book_format.specs.DecodeLaws.{Decoded}
 use Rattle.derivation_search.specs.Searched.{Searched}
-use Rattle.derivation_writer.specs.declared.Derivation.{Derivation}
-use Rattle.derivation_writer.specs.WritesDerivation.{lent_enough, Writes}
+use Rattle.derivation_writer.specs.WritesDerivation.{Derivation, lent_enough, Writes}
 
 -- so many numbers are room for the rules of a book and for a chart over its roles
 abbrev pub Roomy : List ℕ → (table chart : ℕ) → Type 0

@@ -1,7 +1,7 @@
 // Writes a derivation out: the steps from a role to a chain, from a chart of the roles that derive its parts.
 #![tactic(auto)]
 
-ghost use Rattle.std.specs.Prelude.{length};
+ghost use Rattle.std.specs.Prelude.{◌≤◌, length};
 ghost use Rattle.roles.specs.Rule.{Book};
 ghost use Rattle.derivation_writer.specs.WritesDerivation.{writable, Writes};
 ghost use Rattle.derivation_writer.specs.WritingStages.{Roomy, SearchedFor, Gives};
@@ -9,7 +9,6 @@ ghost use Rattle.derivation_writer.specs.WritingStages.{Roomy, SearchedFor, Give
 mod division;
 mod trace;
 
-use book_questions::Admission;
 use byte_parts::byte;
 use derivation_charts::derives;
 use derivation_search::find;
@@ -17,71 +16,65 @@ use refusals::BookQueryRefusal;
 use trace::trace;
 use words::word;
 
-// What is said of a derivation that is asked for.
-#[derive(Clone, Copy)]
-pub enum Derivation {
-    // So many steps are written.
-    Steps(usize),
-    // The chain is not derived.
-    None,
-    Refused(BookQueryRefusal),
-}
-
 // Writes the steps of a derivation of the chain from the role by the rules of a book, four bytes each: the place in 16 bits, low byte first, the rule's
-// number, 0 for the rule itself or 1 for its inverse. 16,384 bytes are lent at least. The bytes behind the steps stay as they were, and all of them where
-// no steps are written. Books of few names and rules are searched in small arrays, which take less time to clear.
-pub fn write(book: &[u8], role: u8, chain: &[u8], steps: &mut [u8]) -> Derivation
+// number, 0 for the rule itself or 1 for its inverse. So many steps are written; none where the chain is not derived. 16,384 bytes are lent at least. The bytes
+// behind the steps stay as they were, and all of them where no steps are written. Books of few names and rules are searched in small arrays, which take less
+// time to clear.
+pub fn write(
+    book: &[u8],
+    role: u8,
+    chain: &[u8],
+    steps: &mut [u8],
+) -> Result<Option<usize>, BookQueryRefusal>
     ensures { Writes (writable (length steps.old) book.now role chain.now) role chain.now
         steps.old steps.new result }
 {
     let names = byte(book, 5);
     let rules = word(book, 6);
     if names <= 4 && rules <= 8 {
-        let mut table = [0u8; 256];
-        let mut chart = [0u16; 2328];
-        return write_in(book, role, chain, &mut table, &mut chart, steps);
+        write_in::<256, 2328>(book, role, chain, steps)
+    } else if names <= 8 && rules <= 16 {
+        write_in::<512, 4656>(book, role, chain, steps)
+    } else {
+        write_in::<8192, 37248>(book, role, chain, steps)
     }
-    if names <= 8 && rules <= 16 {
-        let mut table = [0u8; 512];
-        let mut chart = [0u16; 4656];
-        return write_in(book, role, chain, &mut table, &mut chart, steps);
-    }
-    let mut table = [0u8; 8192];
-    let mut chart = [0u16; 37248];
-    write_in(book, role, chain, &mut table, &mut chart, steps)
 }
 
-// The same, with room for the rules and the chart.
-fn write_in(
+// The same, with so much room for the rules and the chart.
+fn write_in<const TABLE: usize, const CHART: usize>(
     book: &[u8],
     role: u8,
     chain: &[u8],
-    table: &mut [u8],
-    chart: &mut [u16],
     steps: &mut [u8],
-) -> Derivation
-    requires { Roomy book.now (length table.old) (length chart.old) }
+) -> Result<Option<usize>, BookQueryRefusal>
+    requires room { Roomy book.now TABLE CHART }
+    requires most { (TABLE ≤ 8192) × (CHART ≤ 37248) }
     ensures { Writes (writable (length steps.old) book.now role chain.now) role chain.now
         steps.old steps.new result }
 {
-    let admission = find(book, role, chain, table, chart);
-    if let Admission::Refused(refusal) = admission {
-        return Derivation::Refused(refusal);
-    }
-    give(table, chain, chart, role, steps)
+    let mut table = [0u8; TABLE];
+    let mut chart = [0u16; CHART];
+    find(book, role, chain, &mut table, &mut chart)?;
+    give(&table, chain, &chart, role, steps)
 }
 
 // The same for a chain of which is found which roles derive its parts.
-fn give(table: &[u8], chain: &[u8], chart: &[u16], role: u8, steps: &mut [u8]) -> Derivation
+fn give(
+    table: &[u8],
+    chain: &[u8],
+    chart: &[u16],
+    role: u8,
+    steps: &mut [u8],
+) -> Result<Option<usize>, BookQueryRefusal>
     requires { (b : Book) × SearchedFor b role chain.now table.now chart.now }
     ensures { (b : Book) → SearchedFor b role chain.now table.now chart.now
         → Gives b role chain.now steps.old steps.new result }
 {
     if steps.len() < 16384 {
-        return Derivation::Refused(BookQueryRefusal::Buffer);
+        return Err(BookQueryRefusal::Buffer);
     }
     if !derives(chart, 0, chain.len(), role) {
-        return Derivation::None;
+        return Ok(None);
     }
-    Derivation::Steps(trace(table, chain, chart, role, steps))
+    Ok(Some(trace(table, chain, chart, role, steps)))
 }
