@@ -17,8 +17,12 @@ use Rattle.book_questions.specs.RuleTable.{Filled}
 abbrev pub says : Checked Header BookQueryRefusal → Result Header
 says = said book_query_cause book_query_value
 
--- yes, no, or the refusal by its number and value
-abbrev pub answers : Checked Bool BookQueryRefusal → Result Bool
+-- yes, no, or why a question put to a book is refused
+abbrev pub BookAnswer : Type 0
+BookAnswer = Checked Bool BookQueryRefusal
+
+-- the same in document 01's numbers
+abbrev pub answers : BookAnswer → Result Bool
 answers = said book_query_cause book_query_value
 
 -- the question's causes, and the lent table: the completed rules of the book that is asked among what it held, where so many numbers are lent; what it
