@@ -1,6 +1,6 @@
 -- The whole answer of the order check: refused, or passed with the levels of the rules.
 use Rattle.std.specs.Prelude.{List, ◌≡◌, ℕ, replicate, Ok, Err}
-use Rattle.std.proofs.Math.Path.{sym, ap, subst}
+use Rattle.std.proofs.Math.Path.{sym, ap}
 use Rattle.std.proofs.Common.{◌∙◌, take_all}
 use Rattle.std.proofs.Math.ListN.{length, get_or-replicate}
 use Rattle.std.proofs.lemmas.List.{length-replicate}
@@ -9,8 +9,8 @@ use Rattle.order_levels.specs.declared.Levels.{Levels}
 use Rattle.order_levels.specs.Levels.{LeveledBy, Climbs}
 use Rattle.order_masks.specs.MaskLevels.{levels-found, depth-found}
 use Rattle.base.specs.Result.{Result, map_result}
-use Rattle.base.specs.Result.Result.{refused, ok}
-use Rattle.base.specs.ResultLaws.{ok_injective, map_refused, map_ok}
+use Rattle.base.specs.Result.Result.{ok}
+use Rattle.base.specs.ResultLaws.{ok_injective, map_ok}
 use Rattle.book_format.specs.Format.{read}
 use Rattle.book_format.specs.ReadLaws.{read_names, read-few_names}
 use Rattle.book_causes.specs.Ordered.{ordered}

@@ -2,7 +2,7 @@
 use Rattle.std.specs.Prelude.{List, ◌≡◌, refl, ℕ, ◌<◌, ◌≤◌, length, Ok, Err}
 use Rattle.std.specs.Prelude.{Result as Answer}
 use Rattle.refusals.specs.declared.build.BuildRefusal.{BuildRefusal}
-use Rattle.std.proofs.Common.{sym, ap, ◌∙◌, arith}
+use Rattle.std.proofs.Common.{sym, ap, ◌∙◌}
 use Rattle.roles.specs.Rule.{Rule, Book}
 use Rattle.base.specs.Result.{Result, map_result}
 use Rattle.base.specs.ResultLaws.{ok_injective, refused-ok}

@@ -5,14 +5,12 @@ use lib.ListN.{length, take, replicate}
 use lib.Seq.{length-take-le}
 use Rattle.std.proofs.lemmas.Result.{err_from_is_err_and}
 use Rattle.book_causes.specs.OrderedRun.{ordered-refused}
-use Rattle.book_format.specs.Format.{read}
 use Rattle.base.specs.Result.{map_result}
-use Rattle.base.specs.Result.Result.{ok}
 use Rattle.order_masks.specs.AbsorbLaws.{holds-none}
 use Rattle.order_checker.specs.FrontLaws.{holds-front}
 use Rattle.order_checker.specs.GatherLaws.{formed, few_names}
 use Rattle.order_checker.specs.OrderLaws.{order-refused, order-passed}
-use Rattle.book_decoder.specs.Verdict.{header_of, says}
+use Rattle.book_decoder.specs.Verdict.{header_of}
 use Rattle.order_checker.proofs.order.Goals as goal
 use Rattle.order_checker.proofs.order.Goals.{In_ok-header}
 
