@@ -1,5 +1,6 @@
 -- What the order check's answers say.
-use Rattle.std.specs.Prelude.{Bool, true, false, not, List, ◌≡◌, ℕ, replicate}
+use Rattle.std.specs.Prelude.{Bool, true, false, not, List, ◌≡◌, ℕ, replicate, Ok}
+use Rattle.std.specs.Prelude.{Result as Answer}
 use Rattle.roles.specs.Rule.{Rule, Book}
 use Rattle.order.specs.Closure.{with_rule, clashes}
 use Rattle.name_sets.specs.Mask.{Holds}
@@ -10,7 +11,10 @@ use Rattle.book_format.specs.Format.{read}
 use Rattle.book_causes.specs.Ordered.{ordered, Judged}
 use Rattle.book_causes.specs.Accepted.{levels_of, depth_of, count_or_none, written}
 use Rattle.book_header.specs.declared.Header.{Header}
-use Rattle.book_decoder.specs.Verdict.{header_of, says}
+use Rattle.book_decoder.specs.Verdict.{header_of}
+use Rattle.refusals.specs.declared.book.BookRefusal.{BookRefusal}
+use Rattle.refusals.specs.Said.{said}
+use Rattle.refusals.specs.BookRefusals.{book_cause, book_value}
 use Rattle.order_checker.specs.declared.Ordering.{Ordering}
 
 -- a relation on names that is transitive
@@ -27,12 +31,16 @@ abbrev pub GatheredOrder : List ℕ → Result Header → List ℕ → Type 0
 GatheredOrder s (refused cause value) masks = Unit
 GatheredOrder s (ok h) masks = (b : Book) → ordered s ≡ ok b → (lower : ℕ → ℕ → Bool) × Closed b.rules lower × Holds masks lower
 
+-- what the order check says of a book: passed by its header, or refused by its number and value
+abbrev pub header_said : Answer Ordering BookRefusal → Result Header
+header_said r = map_result (λ (o : Ordering). o.header) (said book_cause book_value r)
+
 -- the answer of the order check
-pub record Ordered (s : List ℕ) (r : Ordering) : Type 0 where
+pub record Ordered (s : List ℕ) (r : Answer Ordering BookRefusal) : Type 0 where
   -- causes 1 to 8
-  pub verdict : says r.verdict ≡ map_result header_of (ordered s)
+  pub verdict : header_said r ≡ map_result header_of (ordered s)
   -- cause 8 is given exactly where there is no regular order, by the last rule of the shortest front part that has none
   pub judged : (b : Book) → read s ≡ ok b → Judged b (ordered s)
-  -- the levels of the names of a book that passes, over zeros, and the highest of them; zeros alone where it is refused
-  pub levels : r.levels ≡ written (ordered s) levels_of (replicate 64 0)
-  pub depth : r.depth ≡ count_or_none depth_of (ordered s)
+  -- of a book that passes, the levels of its names over zeros, and the highest of them
+  pub levels : (o : Ordering) → r ≡ Ok o → o.levels ≡ written (ordered s) levels_of (replicate 64 0)
+  pub depth : (o : Ordering) → r ≡ Ok o → o.depth ≡ count_or_none depth_of (ordered s)

@@ -22,43 +22,29 @@ use order_levels::{Levels, levels_of};
 use refusals::BookRefusal;
 use rule_shapes::{Shape, shape_of};
 
-// The verdict on a book by causes 1 to 8 and, where it passes, the level of each name and the highest of them. All are 0 where the book is
-// refused, and so are the levels of names that it does not have.
+// What the order check finds of a book that passes causes 1 to 8: its header, the level of each name and the highest of them. The levels of names
+// that the book does not have are 0.
 #[derive(Drop)]
 pub struct Ordering {
-    pub verdict: Result<Header, BookRefusal>,
+    pub header: Header,
     pub levels: [u8; 64],
     pub depth: usize,
 }
 
-// Checks the order of a book.
-pub fn order(book: &[u8]) -> Ordering
+// Checks the order of a book: causes 1 to 8.
+pub fn order(book: &[u8]) -> Result<Ordering, BookRefusal>
     ensures { Ordered book.now result }
 {
-    let verdict = book_reader::read(book);
-    let Ok(header) = verdict else {
-        return Ordering {
-            verdict,
-            levels: [0; 64],
-            depth: 0,
-        };
-    };
-    let names = header.names;
-    let mut masks = [0u64; 64];
-    let gathered = gather(book, header, &mut masks[..names]);
-    let Ok(_) = gathered else {
-        return Ordering {
-            verdict: gathered,
-            levels: [0; 64],
-            depth: 0,
-        };
-    };
-    let Levels { levels, depth } = levels_of(&masks[..names]);
-    Ordering {
-        verdict: gathered,
+    let header = book_reader::read(book)?;
+    let mut names = [0u64; 64];
+    let masks = &mut names[..header.names];
+    gather(book, header, masks)?;
+    let Levels { levels, depth } = levels_of(masks);
+    Ok(Ordering {
+        header,
         levels,
         depth,
-    }
+    })
 }
 
 // Gathers the order that the rules force on the names: mask x holds the names lower than x, with a mask for each name of the book. Refused at the

@@ -1,6 +1,7 @@
 -- The answer whole: a refused book and numbers of another length are left alone, and the three steps of filling together are the index.
 use mathlib.Core.List.{List, Memᴰ}
-use Rattle.std.specs.Prelude.{◌≡◌, refl, ℕ, ◌-◌, ◌<◌, ◌≤◌, length, get_or, replicate, Ok}
+use Rattle.std.specs.Prelude.{◌≡◌, refl, ℕ, ◌-◌, ◌<◌, ◌≤◌, length, get_or, replicate, Ok, Err}
+use Rattle.std.specs.Prelude.{Result as Answer}
 use Rattle.std.proofs.Common.{sym, ap, ◌∙◌, subst, arith}
 use Rattle.roles.specs.Role.{name}
 use Rattle.roles.specs.Rule.{Rule, Book}
@@ -15,12 +16,14 @@ use Rattle.book_format.specs.Place.{rule_at, rule_place}
 use Rattle.book_format.specs.FormatLaws.{get_or-first_rules}
 use Rattle.book_format.specs.DecodeLaws.{Decoded, decoded}
 use Rattle.book_format.specs.ReadLaws.{read-decode, read_whole, read_named, named-name, named-member, rules-named, read-few_names}
-use Rattle.book_causes.specs.Accepted.{levels_of, written}
+use Rattle.book_causes.specs.Accepted.{levels_of, depth_of, count_or_none, written}
 use Rattle.book_causes.specs.LevelsLaws.{Fitting, fits-same, levels-fitting}
 use Rattle.book_causes.specs.Ordered.{ordered}
 use Rattle.book_causes.specs.OrderedRun.{ordered-read}
 use Rattle.book_header.specs.declared.Header.{Header}
-use Rattle.book_decoder.specs.Verdict.{header_of, says}
+use Rattle.book_decoder.specs.Verdict.{header_of}
+use Rattle.refusals.specs.declared.book.BookRefusal.{BookRefusal}
+use Rattle.refusals.specs.BookRefusals.{book_cause, book_value}
 use Rattle.order_checker.specs.declared.Ordering.{Ordering}
 use Rattle.order_checker.specs.Gather.{Ordered}
 use Rattle.table_languages.specs.LeftSides.{fits-apart}
@@ -29,6 +32,7 @@ use Rattle.rule_index.specs.RuleIndex.{Indexed, level_in, Recorded}
 use Rattle.rule_index.specs.Filling.{Ruled, Entering, Started, Linkable, Linking}
 use Rattle.rule_index.specs.FillingLaws.{recorded_kept}
 use Rattle.rule_index.specs.Indexes.{Indexes}
+use Rattle.rule_index.specs.declared.Indexing.{Indexing}
 
 -- a book in order
 module _ (s : List ℕ) (b : Book) (i : read s ≡ ok b) where
@@ -106,68 +110,72 @@ module _ (s : List ℕ) (b : Book) (i : read s ≡ ok b) where
       few-levels x p = rw (level x (omega (arith, read-few_names s b i))) (l.few x p)
 
 -- the answer, by the answer of the order check
-module _ {s : List ℕ} {r : Ordering} (o : Ordered s r) where
-  pub indexes_refused : {old : List ℕ} {c n : ℕ} → says r.verdict ≡ refused c n → Indexes s old old (record { verdict = r.verdict; depth = r.depth })
-  indexes_refused {old} {c} {n} e =
+pub indexes_refused : {s old : List ℕ} {x : BookRefusal} → Ordered s (Err x) → Indexes s old old (Err x)
+indexes_refused {x = x} o =
+    record {
+      verdict = o.verdict;
+      depth = λ i q. cc;
+      kept = λ _ _ _. refl;
+      other = λ _. refl;
+      index = λ b q. absurd (refused-ok (book_cause x) (book_value x) (header_of b) (o.verdict ∙ ap (map_result header_of) q));
+      few = λ b q. absurd (refused-ok (book_cause x) (book_value x) (header_of b) (o.verdict ∙ ap (map_result header_of) q));
+    }
+
+module _ {s : List ℕ} {r : Ordering} (o : Ordered s (Ok r)) where
+  e : ok r.header ≡ map_result header_of (ordered s)
+  e = o.verdict
+
+  same_depth : (i : Indexing) → ◌≡◌ {A = Answer Indexing BookRefusal} (Ok (record { header = r.header; depth = r.depth })) (Ok i) → i.depth ≡ count_or_none depth_of (ordered s)
+  same_depth i q =
+      let y : ◌≡◌ {A = Indexing} i (record { header = r.header; depth = r.depth }) = cc in
+      ap (λ (x : Indexing). x.depth) y ∙ o.depth r refl
+
+  rules : (b : Book) → ordered s ≡ ok b → r.header.rules ≡ length b.rules
+  rules b q = sym (ap (λ (x : Header). x.rules) (ok_injective (header_of b) r.header (sym (ap (map_result header_of) q) ∙ sym e)))
+
+  passed : (b : Book) × (ordered s ≡ ok b)
+  passed = by_result (ordered s) refl e
+    where
+      by_result : (t : Result Book) → ordered s ≡ t → ok r.header ≡ map_result header_of t → (b : Book) × (ordered s ≡ ok b)
+      by_result (refused c v) q w = absurd (refused-ok c v r.header (sym w))
+      by_result (ok b) q w = (b, q)
+
+  pub rules-whole : Ruled s r.header.rules
+  rules-whole = rw (rules passed.0 passed.1) (ruled s passed.0 (ordered-read s passed.0 passed.1))
+
+  fitting : (b : Book) → ordered s ≡ ok b → Fitting r.levels b
+  fitting b q = subst (λ (l : List ℕ). Fitting l b) (sym (o.levels r refl ∙ ap (λ (t : Result Book). written t levels_of (replicate 64 0)) q)) (levels-fitting s b q (replicate 64 0))
+
+  pub indexes_other : {old : List ℕ} → (length old ≡ 3904 → ⊥) → Indexes s old old (Ok (record { header = r.header; depth = r.depth }))
+  indexes_other x =
       record {
-        verdict = o.verdict;
-        depth = o.depth;
+        verdict = e;
+        depth = same_depth;
         kept = λ _ _ _. refl;
         other = λ _. refl;
-        index = λ b q. absurd (refused-ok c n (header_of b) (sym e ∙ o.verdict ∙ ap (map_result header_of) q));
-        few = λ b q. absurd (refused-ok c n (header_of b) (sym e ∙ o.verdict ∙ ap (map_result header_of) q));
+        index = λ b q p. absurd (x p);
+        few = λ b q p. absurd (x p);
       }
 
-  module _ {h : Header} (w : r.verdict ≡ Ok h) where
-    e : ok h ≡ map_result header_of (ordered s)
-    e = sym (ap says w) ∙ o.verdict
+  module _ {entered started : List ℕ} (n : Entering s r.header.rules entered) (t : Started r.levels 64 entered started) where
+    linkable_book : (b : Book) (q : ordered s ≡ ok b) → Linkable b.rules r.header.rules started
+    linkable_book b q = rw (rules b q) (ready s b (ordered-read s b q) r.levels entered started (rw (rules b q) at n) t (fitting b q))
 
-    rules : (b : Book) → ordered s ≡ ok b → h.rules ≡ length b.rules
-    rules b q = sym (ap (λ (x : Header). x.rules) (ok_injective (header_of b) h (sym (ap (map_result header_of) q) ∙ sym e)))
+    pub linkable : (ρs : List Rule) × Linkable ρs r.header.rules started
+    linkable = (passed.0.rules, linkable_book passed.0 passed.1)
 
-    passed : (b : Book) × (ordered s ≡ ok b)
-    passed = by_result (ordered s) refl e
-      where
-        by_result : (t : Result Book) → ordered s ≡ t → ok h ≡ map_result header_of t → (b : Book) × (ordered s ≡ ok b)
-        by_result (refused c v) q w = absurd (refused-ok c v h (sym w))
-        by_result (ok b) q w = (b, q)
-
-    pub rules-whole : Ruled s h.rules
-    rules-whole = rw (rules passed.0 passed.1) (ruled s passed.0 (ordered-read s passed.0 passed.1))
-
-    fitting : (b : Book) → ordered s ≡ ok b → Fitting r.levels b
-    fitting b q = subst (λ (l : List ℕ). Fitting l b) (sym (o.levels ∙ ap (λ (t : Result Book). written t levels_of (replicate 64 0)) q)) (levels-fitting s b q (replicate 64 0))
-
-    pub indexes_other : {old : List ℕ} → (length old ≡ 3904 → ⊥) → Indexes s old old (record { verdict = Ok h; depth = r.depth })
-    indexes_other x =
+    pub indexes_filled : {old : List ℕ} → length old ≡ 3904 → {new : List ℕ} → ((ρs : List Rule) → Linkable ρs r.header.rules started → Linking ρs 0 started new)
+        → Indexes s old new (Ok (record { header = r.header; depth = r.depth }))
+    indexes_filled {old} z {new} k =
         record {
           verdict = e;
-          depth = o.depth;
-          kept = λ _ _ _. refl;
-          other = λ _. refl;
-          index = λ b q p. absurd (x p);
-          few = λ b q p. absurd (x p);
+          depth = same_depth;
+          kept = λ c v q. absurd (refused-ok c v r.header (sym (e ∙ ap (map_result header_of) q)));
+          other = λ w. absurd (w z);
+          index =
+              λ b q p.
+              indexed s b (ordered-read s b q) r.levels entered started (rw (rules b q) at n) t (fitting b q) new (k _ (linkable_book b q));
+          few =
+              λ b q p.
+              few-levels s b (ordered-read s b q) r.levels entered started (rw (rules b q) at n) t (fitting b q) new (k _ (linkable_book b q));
         }
-
-    module _ {entered started : List ℕ} (n : Entering s h.rules entered) (t : Started r.levels 64 entered started) where
-      linkable_book : (b : Book) (q : ordered s ≡ ok b) → Linkable b.rules h.rules started
-      linkable_book b q = rw (rules b q) (ready s b (ordered-read s b q) r.levels entered started (rw (rules b q) at n) t (fitting b q))
-
-      pub linkable : (ρs : List Rule) × Linkable ρs h.rules started
-      linkable = (passed.0.rules, linkable_book passed.0 passed.1)
-
-      pub indexes_filled : {old : List ℕ} → length old ≡ 3904 → {new : List ℕ} → ((ρs : List Rule) → Linkable ρs h.rules started → Linking ρs 0 started new)
-          → Indexes s old new (record { verdict = Ok h; depth = r.depth })
-      indexes_filled {old} z {new} k =
-          record {
-            verdict = e;
-            depth = o.depth;
-            kept = λ c v q. absurd (refused-ok c v h (sym (e ∙ ap (map_result header_of) q)));
-            other = λ w. absurd (w z);
-            index =
-                λ b q p.
-                indexed s b (ordered-read s b q) r.levels entered started (rw (rules b q) at n) t (fitting b q) new (k _ (linkable_book b q));
-            few =
-                λ b q p.
-                few-levels s b (ordered-read s b q) r.levels entered started (rw (rules b q) at n) t (fitting b q) new (k _ (linkable_book b q));
-          }

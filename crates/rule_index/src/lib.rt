@@ -10,35 +10,34 @@ ghost use Rattle.rule_index.specs.Indexes.{Indexes};
 
 use book_cursor::Cursor;
 use book_decoder::Header;
-use order_checker::order;
+use order_checker::{Ordering, order};
 use refusals::BookRefusal;
 use role_bytes::name;
 use rule_shapes::{numbers_of, shape_of};
 
-// The verdict on a book by causes 1 to 8, and its depth: 0 where it is refused.
+// A book that passes causes 1 to 8, by its header and its depth.
 #[derive(Clone, Copy)]
 pub struct Indexing {
-    pub verdict: Result<Header, BookRefusal>,
+    pub header: Header,
     pub depth: usize,
 }
 
 // Checks the order of a book by causes 1 to 8 and, where it has one and 3,904 numbers are lent, fills the index of its rules; else the numbers
 // keep their values.
-pub fn index(book: &[u8], index: &mut [u16]) -> Indexing
+pub fn index(book: &[u8], index: &mut [u16]) -> Result<Indexing, BookRefusal>
     ensures { Indexes book.now index.old index.new result }
 {
-    let ordering = order(book);
-    let verdict = ordering.verdict;
-    let depth = ordering.depth;
-    let Ok(header) = verdict else {
-        return Indexing { verdict, depth };
-    };
+    let Ordering {
+        header,
+        levels,
+        depth,
+    } = order(book)?;
     if index.len() == 3904 {
         enter(book, header.rules, index);
-        start(&ordering.levels, index);
+        start(&levels, index);
         link(header.rules, index);
     }
-    Indexing { verdict, depth }
+    Ok(Indexing { header, depth })
 }
 
 // Enters the rules, one after another.

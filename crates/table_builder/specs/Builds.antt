@@ -9,6 +9,7 @@ use Rattle.rule_index.specs.declared.Indexing.{Indexing}
 use Rattle.rule_index.specs.RuleIndex.{Indexed}
 use Rattle.rule_index.specs.Indexes.{Indexes}
 use Rattle.book_causes.specs.Accepted.{states_of, count_of, depth_of, heads_of, moves_of, built, written}
+use Rattle.refusals.specs.declared.book.BookRefusal.{BookRefusal}
 use Rattle.refusals.specs.declared.build.BuildRefusal.{BuildRefusal}
 use Rattle.refusals.specs.Said.{said}
 use Rattle.refusals.specs.BuildRefusals.{build_cause, build_value}
@@ -28,7 +29,7 @@ abbrev pub Answers : List ℕ → (heads moves : ℕ) → Outcome Counts BuildRe
 Answers s heads moves r = says r ≡ map_result counts_of (built s heads moves)
 
 -- the numbers are what indexing a book left of as many others
-abbrev pub Checked : (s ix : List ℕ) → Indexing → Type 0
+abbrev pub Checked : (s ix : List ℕ) → Outcome Indexing BookRefusal → Type 0
 Checked s ix i = (old : List ℕ) × (length old ≡ 3904) × Indexes s old ix i
 
 -- an ordered book of so many names and its index, with levels below the number of names

@@ -1,8 +1,8 @@
 -- From the answer of the index to what a build promises.
 use Rattle.std.specs.Prelude.{List, ◌≡◌, refl, ℕ, ◌<◌, ◌≤◌, length, Ok, Err}
-use Rattle.std.specs.Prelude.{Result as Verdict}
+use Rattle.std.specs.Prelude.{Result as Answer}
 use Rattle.refusals.specs.declared.build.BuildRefusal.{BuildRefusal}
-use Rattle.std.proofs.Common.{sym, ap, ◌∙◌, arith}
+use Rattle.std.proofs.Common.{sym, ap, ◌∙◌}
 use Rattle.roles.specs.Rule.{Rule, Book}
 use Rattle.base.specs.Result.{Result, map_result}
 use Rattle.base.specs.ResultLaws.{ok_injective, refused-ok}
@@ -16,25 +16,21 @@ use Rattle.refusals.specs.declared.book.BookRefusal.{BookRefusal}
 use Rattle.refusals.specs.declared.build.BuildRefusal.TheVariants.{Book as ByBook}
 use Rattle.book_header.specs.declared.Header.{Header}
 use Rattle.refusals.specs.BookRefusals.{book_cause, book_value}
-use Rattle.book_decoder.specs.Verdict.{header_of, says}
+use Rattle.book_decoder.specs.Verdict.{header_of}
 use Rattle.rule_index.specs.declared.Indexing.{Indexing}
 use Rattle.rule_index.specs.RuleIndex.{Indexed}
-use Rattle.rule_index.specs.Indexes.{Indexes}
-use Rattle.table_limits.specs.Limits.{settled, names_of, names_in}
+use Rattle.rule_index.specs.Indexes.{Indexes, header_said}
+use Rattle.table_limits.specs.Limits.{limited}
 use Rattle.table_builder.specs.Lay.{Enough, Counted, Rooted}
 use Rattle.table_builder.specs.Builds.{counts_of, Answers, Checked, Prepared, Builds}
 use Rattle.table_builder.specs.CountedLaws.{judged, builds_refused, builds_laid}
 use Rattle.table_writer.specs.declared.Place.{Place}
 use Rattle.table_limits.specs.declared.Counts.{Counts}
 
--- what is said of a book that was indexed and counted
-abbrev said : Indexing → Place → (heads moves : ℕ) → Verdict Counts BuildRefusal
-said i end heads moves = settled i.verdict end.state end.count i.depth heads moves
-
-pub checked : {s old ix : List ℕ} {i : Indexing} → length old ≡ 3904 → Indexes s old ix i → Checked s ix i
+pub checked : {s old ix : List ℕ} {i : Answer Indexing BookRefusal} → length old ≡ 3904 → Indexes s old ix i → Checked s ix i
 checked l a = (_, l, a)
 
-module _ {s ix : List ℕ} {i : Indexing} (a : Checked s ix i) where
+module _ {s ix : List ℕ} {i : Answer Indexing BookRefusal} (a : Checked s ix i) where
   -- a book that is in order
   prepare : (b : Book) → Ordered.ordered s ≡ ok b → (names : ℕ) → names ≡ b.names → Prepared s ix names
   prepare b o names e =
@@ -48,50 +44,6 @@ module _ {s ix : List ℕ} {i : Indexing} (a : Checked s ix i) where
         levels = λ x k. a.2.few b o a.1 x (rw (← e) k);
       }
 
-  -- by its header
-  prepared : (h : Header) → i.verdict ≡ Ok h → Prepared s ix h.names
-  prepared h e = by_result (Ordered.ordered s) refl (sym (ap says e) ∙ a.2.verdict)
-    where
-      by_result : (r : Result Book) → Ordered.ordered s ≡ r → ok h ≡ map_result header_of (Ordered.ordered s) → Prepared s ix h.names
-      by_result (refused c v) f g = absurd (refused-ok c v h (sym (g ∙ ap (map_result header_of) f)))
-      by_result (ok b) f g = prepare b f h.names (ap (λ (x : Header). x.names) (ok_injective h (header_of b) (g ∙ ap (map_result header_of) f)))
-
-  -- a book that is refused
-  refused-answers : (heads moves : ℕ) (r : BookRefusal) → i.verdict ≡ Err r → Answers s heads moves (Err (ByBook r))
-  refused-answers heads moves r e =
-      rw (built-refused s heads moves (book_cause r) (book_value r)
-      (accepted-refused s (book_cause r) (book_value r) (by_result (Ordered.ordered s) refl (sym (ap says e) ∙ a.2.verdict)))) refl
-    where
-      by_result : (x : Result Book) → Ordered.ordered s ≡ x → refused (book_cause r) (book_value r) ≡ map_result header_of (Ordered.ordered s)
-          → Ordered.ordered s ≡ refused (book_cause r) (book_value r)
-      by_result (refused c v) f g =
-          let same = g ∙ ap (map_result header_of) f in
-          cc (f, same)
-      by_result (ok b) f g = absurd (refused-ok (book_cause r) (book_value r) (header_of b) (g ∙ ap (map_result header_of) f))
-
-  -- what counting asks for, and what is said after it
-  module _ {names : ℕ} (e : names ≡ names_of i.verdict) where
-    pub count-ready : (0 < names → (ρs : List Rule) × Indexed ρs ix) × (names ≤ 64)
-    count-ready = by-verdict i.verdict refl e
-      where
-        by-verdict : (w : Verdict Header BookRefusal) → i.verdict ≡ w → names ≡ names_of w → (0 < names → (ρs : List Rule) × Indexed ρs ix) × (names ≤ 64)
-        by-verdict (Ok h) f g = let p = prepared h f in (λ _. (p.book.rules, p.index), rw g p.few)
-        by-verdict (Err r) f g = (λ l. absurd (let d : ⊥ = omega arith in d), omega arith)
-
-    answers : {end : Place} → ((ρs : List Rule) → Indexed ρs ix → (fuel : ℕ) → Enough ix names fuel → Counted ρs fuel names end) → (heads moves : ℕ)
-        → Answers s heads moves (said i end heads moves)
-    answers {end} c heads moves = by-verdict i.verdict refl e
-      where
-        by-verdict : (w : Verdict Header BookRefusal) → i.verdict ≡ w → names ≡ names_of w → Answers s heads moves (settled w end.state end.count i.depth heads moves)
-        by-verdict (Ok h) g n =
-            let p = prepared h g in
-            let deep = a.2.depth ∙ ap (count_or_none depth_of) p.ordered in
-            judged s ix h.names p deep end (c' p.book.rules p.index p.book.names p.levels) heads moves
-          where
-            c' : (ρs : List Rule) → Indexed ρs ix → (fuel : ℕ) → Enough ix h.names fuel → Counted ρs fuel h.names end
-            c' = rw n at c
-        by-verdict (Err r) g n = refused-answers heads moves r g
-
   -- a book that is built, by its counts
   module _ (heads moves : ℕ) where
     counted : (c : Counts) → Answers s heads moves (Ok c) → Prepared s ix c.names
@@ -102,23 +54,55 @@ module _ {s ix : List ℕ} {i : Indexing} (a : Checked s ix i) where
         by_result (ok b) f g =
             prepare b (accepted-passed s b (built-accepted s heads moves b f)).ordered c.names (ap (λ (x : Counts). x.names) (ok_injective c (counts_of b) g))
 
-    roots-ready : (x : Verdict Counts BuildRefusal) → Answers s heads moves x → {n : ℕ} → n ≡ names_in x → (0 < n → (ρs : List Rule) × Indexed ρs ix) × (n ≤ 64)
-    roots-ready (Ok c) e f = let p = counted c e in (λ _. (p.book.rules, p.index), rw f p.few)
-    roots-ready (Err x) e f = (λ h. absurd (let g : ⊥ = omega arith in g), omega arith)
+  -- a book that is refused
+  pub builds-unread : {x : BookRefusal} → i ≡ Err x → {h m : List ℕ} → Builds s h m h m (Err (ByBook x))
+  builds-unread {x} e {h} {m} =
+      builds_refused s h m (ByBook x)
+      (rw (built-refused s (length h) (length m) (book_cause x) (book_value x)
+      (accepted-refused s (book_cause x) (book_value x) (by_result (Ordered.ordered s) refl (sym (ap header_said e) ∙ a.2.verdict)))) refl)
+    where
+      by_result : (r : Result Book) → Ordered.ordered s ≡ r → refused (book_cause x) (book_value x) ≡ map_result header_of (Ordered.ordered s)
+          → Ordered.ordered s ≡ refused (book_cause x) (book_value x)
+      by_result (refused c v) f g =
+          let same = g ∙ ap (map_result header_of) f in
+          cc (f, same)
+      by_result (ok b) f g = absurd (refused-ok (book_cause x) (book_value x) (header_of b) (g ∙ ap (map_result header_of) f))
 
-  builds : {h m : List ℕ} (x : Verdict Counts BuildRefusal) → Answers s (length h) (length m) x → {q : Place} {h' m' : List ℕ} {n : ℕ} → n ≡ names_in x
-      → Rooted ix n q h h' m m' → Builds s h m h' m' x
-  builds {h} {m} (Ok c) e {q} {h'} {m'} f r =
-      let p = counted (length h) (length m) c e in
-      builds_laid s ix c.names p h m c e q h' m' ((rw f at r).roots p.book.rules p.index p.book.names p.levels)
-  builds {h} {m} (Err x) e f r = rw ((r.none f).0, (r.none f).1) (builds_refused s h m x e)
+  -- a book in order, by what was found of it
+  module _ {o : Indexing} (w : i ≡ Ok o) where
+    prepared : Prepared s ix o.header.names
+    prepared = by_result (Ordered.ordered s) refl (sym (ap header_said w) ∙ a.2.verdict)
+      where
+        by_result : (r : Result Book) → Ordered.ordered s ≡ r → ok o.header ≡ map_result header_of (Ordered.ordered s) → Prepared s ix o.header.names
+        by_result (refused c v) f g = absurd (refused-ok c v o.header (sym (g ∙ ap (map_result header_of) f)))
+        by_result (ok b) f g =
+            prepare b f o.header.names
+            (ap (λ (x : Header). x.names) (ok_injective o.header (header_of b) (g ∙ ap (map_result header_of) f)))
 
-  -- what laying asks for, and what a build has done, by the counts
-  module _ {names : ℕ} (e : names ≡ names_of i.verdict) {end : Place} (c : (ρs : List Rule) → Indexed ρs ix → (fuel : ℕ) → Enough ix names fuel → Counted ρs fuel names end) where
-    pub laying_ready : (heads moves : ℕ) {n : ℕ} → n ≡ names_in (said i end heads moves)
-        → (0 < n → (ρs : List Rule) × Indexed ρs ix) × (n ≤ 64)
-    laying_ready heads moves f = roots-ready heads moves (said i end heads moves) (answers e c heads moves) f
+    -- what counting asks for
+    pub count-ready : (0 < o.header.names → (ρs : List Rule) × Indexed ρs ix) × (o.header.names ≤ 64)
+    count-ready = (λ _. (prepared.book.rules, prepared.index), prepared.few)
 
-    pub builds_settled : {h m : List ℕ} {x : Verdict Counts BuildRefusal} → x ≡ said i end (length h) (length m) → {q : Place} {h' m' : List ℕ} {n : ℕ}
-        → n ≡ names_in (said i end (length h) (length m)) → Rooted ix n q h h' m m' → Builds s h m h' m' x
-    builds_settled {h} {m} k f r = rw k (builds (said i end (length h) (length m)) (answers e c (length h) (length m)) f r)
+    -- what is said of its tables when they are counted
+    module _ {end : Place} (c : (ρs : List Rule) → Indexed ρs ix → (fuel : ℕ) → Enough ix o.header.names fuel → Counted ρs fuel o.header.names end)
+        (h m : List ℕ) {x : Answer Counts BuildRefusal} (k : x ≡ limited o.header.names end.state end.count o.depth (length h) (length m)) where
+      answers : Answers s (length h) (length m) x
+      answers =
+          let p = prepared in
+          let deep = a.2.depth o w ∙ ap (count_or_none depth_of) p.ordered in
+          rw k (judged s ix o.header.names p deep end (c p.book.rules p.index p.book.names p.levels) (length h) (length m))
+
+      pub builds-limited : {r : BuildRefusal} → x ≡ Err r → Builds s h m h m (Err r)
+      builds-limited {r} e = builds_refused s h m r (rw e at answers)
+
+      -- what laying asks for, and what it leaves
+      module _ {n : Counts} (e : x ≡ Ok n) where
+        laid : Prepared s ix n.names
+        laid = counted (length h) (length m) n (rw e at answers)
+
+        pub roots-ready : (0 < n.names → (ρs : List Rule) × Indexed ρs ix) × (n.names ≤ 64)
+        roots-ready = (λ _. (laid.book.rules, laid.index), laid.few)
+
+        pub builds_settled : {q : Place} {h' m' : List ℕ} → Rooted ix n.names q h h' m m' → Builds s h m h' m' (Ok n)
+        builds_settled {q} {h'} {m'} r =
+            builds_laid s ix n.names laid h m n (rw e at answers) q h' m' (r.roots laid.book.rules laid.index laid.book.names laid.levels)

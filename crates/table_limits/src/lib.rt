@@ -2,10 +2,10 @@
 #![tactic(auto)]
 
 ghost use Rattle.std.specs.Prelude.{◌&&◌, ◌≡◌, ◌*◌, leb};
-ghost use Rattle.table_limits.specs.Limits.{limited, settled, names_of, names_in};
+ghost use Rattle.table_limits.specs.Limits.{limited};
 
 use book_decoder::Header;
-use refusals::{BookRefusal, BuildRefusal};
+use refusals::BuildRefusal;
 
 // How many names, states and transitions the tables have, and the depth of the book: the numbers of the tables are the first `names` heads and
 // the first 3 `transitions` moves.
@@ -17,67 +17,18 @@ pub struct Counts {
     pub depth: usize,
 }
 
-// The number of names of a book, or none where it is refused.
-pub fn names_of(verdict: Result<Header, BookRefusal>) -> usize
-    ensures { result ≡ names_of verdict }
-{
-    match verdict {
-        Ok(header) => header.names,
-        Err(_) => 0,
-    }
-}
-
-// The number of names that have been built: none where the book is refused.
-fn names_in(outcome: Result<Counts, BuildRefusal>) -> usize
-    ensures { result ≡ names_in outcome }
-{
-    match outcome {
-        Ok(counts) => counts.names,
-        Err(_) => 0,
-    }
-}
-
-// What a build says of a book with so many states and transitions and of this depth, where so many heads and moves are lent: why it is refused,
-// by the verdict or by causes 9 to 11, or its counts.
-pub fn settle(
-    verdict: Result<Header, BookRefusal>,
-    states: usize,
-    transitions: usize,
-    depth: usize,
-    heads: usize,
-    moves: usize,
-) -> Result<Counts, BuildRefusal>
-    ensures { result ≡ settled verdict states transitions depth heads moves }
-{
-    let header = verdict?;
-    limit(header.names, states, transitions, depth, heads, moves)
-}
-
-// The number of names to lay, of the same: none where the book is refused.
-pub fn names_laid(
-    verdict: Result<Header, BookRefusal>,
-    states: usize,
-    transitions: usize,
-    depth: usize,
-    heads: usize,
-    moves: usize,
-) -> usize
-    ensures { result ≡ names_in (settled verdict states transitions depth heads moves) }
-{
-    names_in(settle(verdict, states, transitions, depth, heads, moves))
-}
-
-// Causes 9 to 11, in this order.
+// Causes 9 to 11, in this order, of a book with so many states and transitions and of this depth, where so many heads and moves are lent: its
+// counts, or why it is refused.
 #[tactic(auto, unfolding(crate::specs::Limits::limited))]
-fn limit(
-    names: usize,
+pub fn limit(
+    header: Header,
     states: usize,
     transitions: usize,
     depth: usize,
     heads: usize,
     moves: usize,
 ) -> Result<Counts, BuildRefusal>
-    ensures { result ≡ limited names states transitions depth heads moves }
+    ensures { result ≡ limited header.names states transitions depth heads moves }
 {
     if !few_states(states) {
         return Err(BuildRefusal::States);
@@ -85,11 +36,11 @@ fn limit(
     if !few_transitions(transitions) {
         return Err(BuildRefusal::Transitions);
     }
-    if !long_enough(names, transitions, heads, moves) {
+    if !long_enough(header.names, transitions, heads, moves) {
         return Err(BuildRefusal::Short);
     }
     Ok(Counts {
-        names,
+        names: header.names,
         states,
         transitions,
         depth,
