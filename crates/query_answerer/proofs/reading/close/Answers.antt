@@ -1,8 +1,5 @@
-use mathlib.Core.Path.{◌≡◌}
-use Prim.Native.Nat.{◌+◌}
 use native.Mathlib.Omega.{arith}
-use Rattle.query_simulation.specs.ReadingLaws.{closing_start, closing_more}
-use Rattle.query_simulation.specs.TransitionIndexLaws.{indexed-behind}
+use Rattle.query_simulation.specs.ReadingLaws.{closing_more}
 use Rattle.query_answerer.proofs.reading.close.Goals as goal
 
 pub loop-i-preserved : goal.loop-i-preserved

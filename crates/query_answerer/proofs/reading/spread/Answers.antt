@@ -1,7 +1,4 @@
-use mathlib.Core.Path.{◌≡◌}
-use Prim.Native.Nat.{◌+◌, ◌*◌, ◌-◌}
-use native.Mathlib.Omega.{arith}
-use Rattle.query_simulation.specs.TransitionIndexLaws.{indexed-behind, walked_start, walked_more, next-less}
+use Rattle.query_simulation.specs.TransitionIndexLaws.{walked_more}
 use Rattle.query_answerer.proofs.reading.spread.Goals as goal
 
 pub loop-at-preserved : goal.loop-at-preserved

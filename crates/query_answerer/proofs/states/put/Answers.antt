@@ -1,7 +1,5 @@
 -- `put` meets its contract: a state that is not a member leaves room for one more.
-use native.Mathlib.Omega.{arith}
-use lib.ListN.{length-set}
-use Rattle.query_simulation.specs.StatesLaws.{put-nothing, put_written}
+use Rattle.query_simulation.specs.StatesLaws.{put_written}
 use Rattle.query_answerer.proofs.states.put.Goals as goal
 
 pub returns : goal.returns
