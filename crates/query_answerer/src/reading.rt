@@ -27,8 +27,7 @@ pub(crate) fn run(
     let mut count = put(space, room, 0, stamp, 0, head);
     count = close(moves, room, space, 0, stamp, count);
     let mut list = 0;
-    let mut i = 0;
-    while i < chain.len() {
+    for i in 0..chain.len() {
         if count == 0 {
             return false;
         }
@@ -36,7 +35,6 @@ pub(crate) fn run(
         let label = link(role, chain, i) as u16;
         count = step(moves, room, label, space, list, count, stamp);
         list = room - list;
-        i += 1;
     }
     space[2 * room + (head + 1)] == stamp
 }
@@ -56,11 +54,9 @@ fn step(
 {
     let next = room - list;
     let mut found = 0;
-    let mut i = 0;
-    while i < count {
+    for i in 0..count {
         let slot = 2 * space[list + i] as usize;
         found = spread(moves, room, slot, label, space, next, stamp, found);
-        i += 1;
     }
     close(moves, room, space, next, stamp, found)
 }

@@ -33,10 +33,6 @@ pub(crate) fn renew(space: &mut [u16], stamp: usize) -> u16
     if stamp <= 64000 {
         return stamp as u16;
     }
-    let mut i = 4096;
-    while i < 6144 {
-        space[i] = 0;
-        i += 1;
-    }
+    space[4096..6144].fill(0);
     1
 }

@@ -14,8 +14,8 @@ use crate::small_tables::is_small;
 use crate::trail_index::fill;
 use byte_parts::byte;
 use query_answerer::Batch;
-use query_checker::{cause_for, names_in};
-use query_parts::{head, links, whole};
+use query_checker::{check_named, names_in};
+use query_parts::{answer_byte, head, links, whole};
 
 // Answers the whole questions at the front of the input, with a byte each, as many as there is room for: 0 for no, 1 for yes, else the number of the
 // cause, 12 to 15, that refuses the question. Bytes after the answers keep their values. Small tables are read in small arrays, which take less
@@ -57,10 +57,9 @@ fn prepare(heads: &[u16], moves: &[u16], room: usize, index: &mut [u16]) -> u8
     requires { (names_in heads.now moves.now ≡ 0 → ⊥) → Held room heads.now moves.now index.old 0 }
     ensures { Tabled room heads.now moves.now result index.new }
 {
-    let names = names_in(heads, moves);
-    if names == 0 {
+    let Some(names) = names_in(heads, moves) else {
         return 0;
-    }
+    };
     fill(moves, room, index);
     names
 }
@@ -84,10 +83,9 @@ fn answer_each(
     let mut read = 0;
     let mut answered = 0;
     while answered < answers.len() {
-        let size = whole(input, read);
-        if size == 0 {
+        let Some(size) = whole(input, read) else {
             break;
-        }
+        };
         let newest = renew(pairs, room, stamp);
         answers[answered] = answer(
             heads, moves, room, index, names, input, read, size, newest, pairs,
@@ -123,14 +121,13 @@ fn answer(
 {
     let role = byte(input, read);
     let chain = links(input, read, size);
-    let cause = cause_for(names, role, chain);
-    if cause != 0 {
-        return cause;
+    if let Err(refusal) = check_named(names, role, chain) {
+        return answer_byte(Err(refusal));
     }
     if 16 < chain.len() {
         return 15;
     }
-    binds(
+    answer_byte(Ok(binds(
         moves,
         room,
         index,
@@ -139,5 +136,5 @@ fn answer(
         head(heads, role),
         stamp,
         pairs,
-    ) as u8
+    )))
 }

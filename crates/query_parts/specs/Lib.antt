@@ -1,2 +1,3 @@
 pub mod PartsLaws
 pub mod Answer
+pub mod AnswerBytes

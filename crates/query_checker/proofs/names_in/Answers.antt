@@ -1,5 +1,5 @@
 -- `names_in` meets its contract: tables that fit have 1 to 64 names.
-use Rattle.std.proofs.Common.{arith, refl, sym, ◌∙◌, ◌≡◌, true}
+use Rattle.std.proofs.Common.{arith, sym, ◌∙◌, ◌≡◌, true}
 use Rattle.query_causes.specs.Query.{tables_fit}
 use Rattle.query_simulation.specs.QueryLaws.{names-some}
 use Rattle.query_simulation.specs.TablesLaws.{tables}

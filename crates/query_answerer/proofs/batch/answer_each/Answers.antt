@@ -1,4 +1,4 @@
-use Rattle.std.proofs.Common.{rules, arith, ◌≡◌, length, refl, sym, ◌∙◌}
+use Rattle.std.proofs.Common.{rules, arith, ◌≡◌, length, refl, sym}
 use Rattle.std.proofs.lemmas.List.{set-get_or}
 use Rattle.query_answerer.specs.BatchLaws.{going_next, going_full, going_broken}
 use Rattle.query_answerer.proofs.batch.answer_each.Goals as goal

@@ -1,5 +1,5 @@
 -- `prepare` meets its contract: tables that fit are indexed.
-use Rattle.std.proofs.Common.{arith, ℕ, ◌≡◌, refl, sym}
+use Rattle.std.proofs.Common.{arith, refl, sym}
 use Rattle.query_answerer.specs.BatchLaws.{named_tables, ready_wrong, ready-zeros, ready-fit}
 use Rattle.query_answerer.proofs.batch.prepare.Goals as goal
 

@@ -1,14 +1,6 @@
 -- `put` meets its contract: a state that is not a member leaves room for one more.
-use native.Mathlib.Omega.{arith}
-use lib.ListN.{length-set}
-use Rattle.query_simulation.specs.StatesLaws.{put-nothing, put_written}
+use Rattle.query_simulation.specs.StatesLaws.{put_written}
 use Rattle.query_answerer.proofs.states.put.Goals as goal
-
-pub returns-then-space-mark : goal.returns-then-space-mark
-returns-then-space-mark c = put-nothing c.requires.states _ c.requires.state_lt_room c.if-space-mark.true
-
-pub bounds-space-mark-2 : goal.bounds-space-mark-2
-bounds-space-mark-2 c = simp length-set (omega (arith, c.requires.states.members.size))
 
 pub returns : goal.returns
 returns c = put_written c.requires.states _ c.requires.state_lt_room c.if-space-mark.false

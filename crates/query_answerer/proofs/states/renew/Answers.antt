@@ -1,21 +1,26 @@
-use native.Mathlib.Omega.{arith}
-use Rattle.query_simulation.specs.StatesLaws.{behind-same, cleared_none, cleared_more, renewed_all}
+-- `renew` meets its contract: the stamps are cleared, and what is behind them stays.
+use borrow.Rule.Slice.PartMut.{put_mid}
+use Rattle.std.proofs.Common.{rules, arith, List, ◌≡◌, ℕ, ◌+◌, ◌*◌, ◌<◌, ◌≤◌, length, get_or, refl}
+use Rattle.std.proofs.lemmas.List.{places}
+use Rattle.std.proofs.lemmas.Slice.{drop-put_mid}
+use Rattle.query_simulation.specs.States.{Renewed}
 use Rattle.query_answerer.proofs.states.renew.Goals as goal
 
-pub loop-i-preserved : goal.loop-i-preserved
-loop-i-preserved c = (omega (arith, c.loop-i.invariant.0), cleared_more 2048 _ _ _ c.loop-i.invariant.1 c.loop-i-test.true (omega (arith, c.loop-i.invariant.1.behind.same, c.requires.size)))
+module _ (room a k : ℕ) (s ys : List ℕ) (at : a ≡ 2 * room) (size : k ≡ room) (low : room ≤ 2048) (fits : 3 * room ≤ length s) (filled : length ys ≡ k)
+    (zeros : (j : ℕ) → j < k → get_or ys j 0 ≡ 0) where
+  same : length (put_mid a k s ys) ≡ length s
+  same = grind (arith, places)
+
+  zero_at : (q : ℕ) → q < room → get_or (put_mid a k s ys) (2 * room + q) 0 ≡ 0
+  zero_at q l = grind (arith, places, zeros q)
+
+  cleared : Renewed room s (put_mid a k s ys) 1
+  cleared =
+      record {
+        small = omega arith;
+        unused = record { low = low; size = omega (arith, same); older = λ q l. omega (arith, zero_at q l) };
+        behind = record { same = same; rest = drop-put_mid a k s ys (3 * room) (omega arith) (omega arith) filled };
+      }
 
 pub returns : goal.returns
-returns c = renewed_all 2048 _ _ _ c.loop-i.invariant.1 (omega arith) c.requires.size c.loop-i-test.false
-
-pub returns-then-stamp-le64000 : goal.returns-then-stamp-le64000
-returns-then-stamp-le64000 c = record { small = c.if-stamp-le64000.true; unused = c.requires; behind = behind-same 2048 _ }
-
-pub loop-i-init : goal.loop-i-init
-loop-i-init c = (omega arith, cleared_none 2048 _)
-
-pub bounds-space-i : goal.bounds-space-i
-bounds-space-i c = omega (arith, c.loop-i.invariant.1.behind.same, c.requires.size)
-
-pub shape_of-space : goal.shape_of-space
-shape_of-space c = c.loop-i.invariant.1.behind.same
+returns c = cleared 2048 4096 2048 c.args.space.now c.fill.new.self refl refl (omega arith) (omega (arith, c.requires.size)) (search rules) (search rules)

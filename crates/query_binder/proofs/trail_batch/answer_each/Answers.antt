@@ -1,3 +1,4 @@
+use Rattle.std.proofs.Common.{refl, sym}
 use native.Mathlib.Omega.{arith}
 use Rattle.query_answerer.specs.BatchLaws.{whole-fits, going_none, going_next, going_full, going_broken}
 use Rattle.query_binder.proofs.trail_batch.answer_each.Goals as goal
@@ -6,14 +7,14 @@ pub answer-requires-clause-tabled : goal.answer-requires-clause-tabled
 answer-requires-clause-tabled c = c.requires.tabled
 
 pub answer-requires-clause-size_value : goal.answer-requires-clause-size_value
-answer-requires-clause-size_value c = (c.whole-size.ensures, omega (arith, c.if-size-eq0.false))
+answer-requires-clause-size_value c = c.in-Some.ensures
 
 pub answer-requires-clause-unused : goal.answer-requires-clause-unused
 answer-requires-clause-unused c = c.renew-newest.ensures.unused
 
 pub overflow_add-read : goal.overflow_add-read
 overflow_add-read c =
-    omega (arith, whole-fits c.loop-answered.invariant.0 c.whole-size.ensures c.if-size-eq0.false, c.well_formed)
+    omega (arith, whole-fits c.loop-answered.invariant.0 c.in-Some.ensures.0 (λ z. omega (arith, c.in-Some.ensures.1, z)), c.well_formed)
 
 pub overflow_add-answered : goal.overflow_add-answered
 overflow_add-answered c =
@@ -25,14 +26,14 @@ loop-answered-smaller c =
 
 pub loop-answered-preserved : goal.loop-answered-preserved
 loop-answered-preserved c =
-    (going_next c.loop-answered.invariant.0 c.whole-size.ensures c.if-size-eq0.false _ c.loop-answered-test.true c.answer.ensures.answered_at, c.answer.ensures.unused_2)
+    (going_next c.loop-answered.invariant.0 c.in-Some.ensures.0 (λ z. omega (arith, c.in-Some.ensures.1, z)) _ c.loop-answered-test.true c.answer.ensures.answered_at, c.answer.ensures.unused_2)
 
 pub shape_of-pairs-after-loop-answered : goal.shape_of-pairs-after-loop-answered
 shape_of-pairs-after-loop-answered c =
     omega (arith, c.loop-answered.invariant.1.size, c.requires.unused.size)
 
-pub shape_of-pairs-then-size-eq0 : goal.shape_of-pairs-then-size-eq0
-shape_of-pairs-then-size-eq0 c =
+pub shape_of-pairs-in_default : goal.shape_of-pairs-in_default
+shape_of-pairs-in_default c =
     omega (arith, c.loop-answered.invariant.1.size, c.requires.unused.size)
 
 pub loop-answered-init : goal.loop-answered-init
@@ -50,8 +51,8 @@ shape_of-answers-after-loop-answered c = c.loop-answered.invariant.0.same
 pub returns-after-loop-answered : goal.returns-after-loop-answered
 returns-after-loop-answered c = going_full c.loop-answered.invariant.0 c.loop-answered-test.false
 
-pub shape_of-answers-then-size-eq0 : goal.shape_of-answers-then-size-eq0
-shape_of-answers-then-size-eq0 c = c.loop-answered.invariant.0.same
+pub shape_of-answers-in_default : goal.shape_of-answers-in_default
+shape_of-answers-in_default c = c.loop-answered.invariant.0.same
 
-pub returns-then-size-eq0 : goal.returns-then-size-eq0
-returns-then-size-eq0 c = going_broken c.loop-answered.invariant.0 c.whole-size.ensures c.if-size-eq0.true
+pub returns-in_default : goal.returns-in_default
+returns-in_default c = going_broken c.loop-answered.invariant.0 (sym c.in_default.ensures) refl

@@ -1,5 +1,5 @@
 -- `roles_fit` meets its contract: `all` tests each link as the definition does.
-use Rattle.std.proofs.Common.{rules, nat_lt, refl, ◌*◌, arith, lt-ltb, le-ltb}
+use Rattle.std.proofs.Common.{rules, nat_lt, refl, ◌*◌, lt-ltb, le-ltb}
 use Rattle.std.proofs.lemmas.List.Recursion.{and_is}
 use Rattle.book_format.specs.Format.{named}
 use Rattle.query_checker.proofs.checks.roles_fit.Goals as goal
