@@ -96,12 +96,11 @@ fn start(levels: &[u8; 64], index: &mut [u16])
     requires { length index.old ≡ 3904 }
     ensures { Started levels.now 64 index.old index.new }
 {
+    index[3584..3648].fill(256);
     for (x, level) in levels.iter().enumerate() {
-        index[3584 + x] = 256;
         index[3648 + x] = level.saturating_sub(1) as u16;
-        index[3712 + x] = 0;
-        index[3776 + x] = 0;
     }
+    index[3712..3840].fill(0);
 }
 
 // From the last rule to the first, each goes in front of the rules of its right name, which has a rule of its kind then.
