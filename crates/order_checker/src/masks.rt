@@ -17,11 +17,9 @@ pub(crate) fn reached(roles: &[u8], masks: &[u64]) -> u64
         → has_of result y ≡ reaches lower roles.now y }
 {
     let mut lower = 0;
-    let mut i = 0;
-    while i < roles.len() {
-        let inner = name(roles[i]) as usize;
-        lower = lower | single(inner) | masks[inner];
-        i += 1;
+    for role in roles {
+        let inner = name(*role) as usize;
+        lower |= single(inner) | masks[inner];
     }
     lower
 }
@@ -33,11 +31,9 @@ pub(crate) fn absorb(masks: &mut [u64], right: usize, lower: u64)
     ensures { (order : ℕ → ℕ → Bool) (inner : Chain) → Holds masks.old order
         → ((y : ℕ) → y < 64 → has_of lower y ≡ reaches order inner y) → Holds masks.new (with_inner order right inner) }
 {
-    masks[right] = masks[right] | lower;
-    let mut x = 0;
-    while x < masks.len() {
-        masks[x] = grown(masks[x], right, lower);
-        x += 1;
+    masks[right] |= lower;
+    for mask in masks.iter_mut() {
+        *mask = grown(*mask, right, lower);
     }
 }
 
@@ -46,8 +42,5 @@ pub(crate) fn absorb(masks: &mut [u64], right: usize, lower: u64)
 fn grown(mask: u64, right: usize, lower: u64) -> u64
     ensures { result ≡ grown_of right lower mask }
 {
-    if has(mask, right) {
-        return mask | lower;
-    }
-    mask
+    if has(mask, right) { mask | lower } else { mask }
 }

@@ -70,36 +70,22 @@ fn enter_rule(left: &[u8], right: u8, k: usize, index: &mut [u16])
     index[at + 2] = numbers.from;
     index[at + 3] = numbers.to;
     index[at + 4] = size as u16;
-    let mut i = 0;
-    while i < size {
-        index[at + 6 + i] = left[start + i] as u16;
-        i += 1;
+    let inner = &left[start..start + size];
+    for (i, role) in inner.iter().enumerate() {
+        index[at + 6 + i] = *role as u16;
     }
 }
 
-// No rule of any name or kind yet, and the levels, counted from 0.
+// No rule of any name or kind yet, and the levels, counted from 0; no level is 0 too.
 fn start(levels: &[u8; 64], index: &mut [u16])
     requires { length index.old ≡ 3904 }
     ensures { Started levels.now 64 index.old index.new }
 {
-    let mut x = 0;
-    while x < 64 {
-        index[3584 + x] = 256;
-        index[3648 + x] = from_zero(levels[x]);
-        index[3712 + x] = 0;
-        index[3776 + x] = 0;
-        x += 1;
+    index[3584..3648].fill(256);
+    for (x, level) in levels.iter().enumerate() {
+        index[3648 + x] = level.saturating_sub(1) as u16;
     }
-}
-
-// A level counted from 0, and no level as 0.
-fn from_zero(level: u8) -> u16
-    ensures { result ≡ level - 1 }
-{
-    if level == 0 {
-        return 0;
-    }
-    level as u16 - 1
+    index[3712..3840].fill(0);
 }
 
 // From the last rule to the first, each goes in front of the rules of its right name, which has a rule of its kind then.
@@ -107,9 +93,7 @@ fn link(rules: usize, index: &mut [u16])
     requires { (ρs : List Rule) × Linkable ρs rules index.old }
     ensures { (ρs : List Rule) → Linkable ρs rules index.old → Linking ρs 0 index.old index.new }
 {
-    let mut k = rules;
-    while 0 < k {
-        k -= 1;
+    for k in (0..rules).rev() {
         let at = 14 * k;
         let x = name(index[at] as u8) as usize;
         let kind = index[at + 1] as usize;
@@ -123,8 +107,5 @@ fn link(rules: usize, index: &mut [u16])
 pub fn mirror_of(first: usize, symmetric: bool) -> usize
     ensures { result ≡ cond symmetric first 256 }
 {
-    if symmetric {
-        return first;
-    }
-    256
+    if symmetric { first } else { 256 }
 }

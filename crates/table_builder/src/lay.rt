@@ -32,12 +32,9 @@ pub(crate) fn roots(index: &[u16], names: usize, heads: &mut [u16], moves: &mut 
 {
     let mut memo = [0u16; 512];
     let mut place = Place { state: 0, count: 0 };
-    let mut x = 0;
-    while x < names {
-        let state = place.state;
-        put(heads, x, state as u16);
+    for x in 0..names {
+        put(heads, x, place.state as u16);
         place = fragment(index, (2 * x) as u8, place, &mut memo, moves);
-        x += 1;
     }
     place
 }
@@ -127,13 +124,11 @@ fn row(
     }
     let mut at = place;
     let mut reached = row.from;
-    let mut j = 0;
-    while j < row.size {
+    for j in 0..row.size {
         let state = at.state;
         at = add(at, true, reached, 128, state, moves);
         at = fragment(index, inner_role(index, row, j), at, memo, moves);
         reached = state + 1;
-        j += 1;
     }
     add(at, true, reached, 128, row.to, moves)
 }
@@ -148,20 +143,21 @@ fn row_of(index: &[u16], k: usize, role: u8, initial: usize) -> InnerRow
     let to = number(index, at + 3);
     let size = inner_count(index, k);
     if number(index, at) == role as usize {
-        return InnerRow {
+        InnerRow {
             from: initial + from,
             to: initial + to,
             start: at + 6,
-            size: size,
+            size,
             mirrored: false,
-        };
-    }
-    InnerRow {
-        from: initial + 1 - to,
-        to: initial + 1 - from,
-        start: at + 6,
-        size: size,
-        mirrored: true,
+        }
+    } else {
+        InnerRow {
+            from: initial + 1 - to,
+            to: initial + 1 - from,
+            start: at + 6,
+            size,
+            mirrored: true,
+        }
     }
 }
 
@@ -171,9 +167,10 @@ fn inner_count(index: &[u16], k: usize) -> usize
     ensures { result ≡ count_by (kind_in index.now k) (size_in index.now k) }
 {
     if number(index, 14 * k + 1) < 2 {
-        return 0;
+        0
+    } else {
+        number(index, 14 * k + 4)
     }
-    number(index, 14 * k + 4)
 }
 
 // Inner role j of a row: of the roles as they stand, or of their inverses from the end.
@@ -183,9 +180,10 @@ fn inner_role(index: &[u16], row: InnerRow, j: usize) -> u8
 {
     let start = row.start;
     if row.mirrored {
-        return inverse(number(index, start + (row.size - 1 - j)) as u8);
+        inverse(number(index, start + (row.size - 1 - j)) as u8)
+    } else {
+        number(index, start + j) as u8
     }
-    number(index, start + j) as u8
 }
 
 // The first rule of a role's name.

@@ -25,10 +25,7 @@ pub(crate) fn keep(r: usize, place: Place, after: Place, memo: &mut [u16])
 {
     let state = after.state;
     let count = after.count;
-    if 2048 < state {
-        return;
-    }
-    if 60000 <= count {
+    if 2048 < state || 60000 <= count {
         return;
     }
     let initial = place.state;
@@ -54,10 +51,7 @@ pub(crate) fn again(r: usize, place: Place, memo: &[u16], moves: &mut [u16]) -> 
     let next = state + number(memo, r);
     let end = count + size;
     if 2048 < next {
-        return Place {
-            state: 2049,
-            count: count,
-        };
+        return Place { state: 2049, count };
     }
     if 60000 <= end {
         return Place {
@@ -65,14 +59,10 @@ pub(crate) fn again(r: usize, place: Place, memo: &[u16], moves: &mut [u16]) -> 
             count: 60000,
         };
     }
-    if moves.len() < 3 * end {
-        return Place {
-            state: next,
-            count: end,
-        };
+    if 3 * end <= moves.len() {
+        let by = state - number(memo, 384 + r);
+        shift(number(memo, 128 + r), size, count, by, moves);
     }
-    let by = state - number(memo, 384 + r);
-    shift(number(memo, 128 + r), size, count, by, moves);
     Place {
         state: next,
         count: end,
@@ -86,8 +76,7 @@ fn shift(start: usize, size: usize, count: usize, by: usize, moves: &mut [u16])
     ensures { (vs : List ℕ) → Copied start size by moves.old vs
         → moves.new ≡ sets moves.old (3 * count) vs }
 {
-    let mut j = 0;
-    while j < size {
+    for j in 0..size {
         let from = 3 * (start + j);
         let to = 3 * (count + j);
         let begins = number(moves, from) + by;
@@ -96,6 +85,5 @@ fn shift(start: usize, size: usize, count: usize, by: usize, moves: &mut [u16])
         moves[to] = begins as u16;
         moves[to + 1] = label;
         moves[to + 2] = ends as u16;
-        j += 1;
     }
 }

@@ -18,9 +18,6 @@ decreases-rows l = 3 * level_in l.index.now (name l.role) + 1
 abbrev pub invariant-row-loop-j : goal.invariant-row-loop-j
 invariant-row-loop-j l = Rowing l.index (level_in l.index (name l.role)) l.row l.initial.at l.initial.moves l.at l.memo l.moves l.reached l.j
 
-abbrev pub decreases-row-loop-j : goal.decreases-row-loop-j
-decreases-row-loop-j l = l.row.size - l.j
-
 abbrev pub invariant-rows-loop-k : goal.invariant-rows-loop-k
 invariant-rows-loop-k l = Walking l.index l.role l.initial' l.first l.initial.at l.initial.moves l.k l.at l.memo l.moves
 

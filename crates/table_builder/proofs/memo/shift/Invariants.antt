@@ -1,10 +1,6 @@
 -- `shift` meets its contract. The invariant: the transitions before j are copied.
-use Prim.Native.Nat.{◌-◌}
 use Rattle.table_builder.specs.ShiftLaws.{Shifting}
 use Rattle.table_builder.proofs.memo.shift.Given as goal
 
 abbrev pub invariant-loop-j : goal.invariant-loop-j
 invariant-loop-j l = Shifting l.start l.size l.count l.by l.initial.moves l.moves l.j
-
-abbrev pub decreases-loop-j : goal.decreases-loop-j
-decreases-loop-j l = l.size - l.j

@@ -1,9 +1,0 @@
--- `grown` meets its contract.
-use mathlib.Core.Path.{refl, sym, ◌∙◌}
-use Rattle.order_checker.proofs.masks.grown.Goals as goal
-
-pub returns-then-has : goal.returns-then-has
-returns-then-has c = rw (sym c.has.ensures ∙ c.if-has.true) refl
-
-pub returns : goal.returns
-returns c = rw (sym c.has.ensures ∙ c.if-has.false) refl
