@@ -2,11 +2,11 @@ use mathlib.Core.Path.{◌≡◌}
 use native.Mathlib.Omega.{arith}
 use borrow.Author.Rules.{rules}
 use lib.ListN.{length, replicate, length-replicate, take}
-use Prim.Native.Nat.{ℕ, ◌*◌, min}
+use Prim.Native.Nat.{ℕ, ◌*◌}
 use Rattle.query_correctness.specs.TrailQuery.{AnsweredByTrails}
 use Rattle.transcript_writer.specs.Opened.{heads_in, moves_in}
 use Rattle.std.proofs.lemmas.Grind.{common_steps}
-use Rattle.transcript_writer.specs.AdvancesLaws.{take-least, take_triples, advances, advances_as, batch_within, batch_less, advanced_next}
+use Rattle.transcript_writer.specs.AdvancesLaws.{advances, advances_as, batch_within, batch_less, advanced_next}
 use Rattle.transcript_writer.proofs.block.answer_each.Goals as goal
 
 zeros : length {A = ℕ} (replicate 1024 0) ≡ 1024
