@@ -1,7 +1,6 @@
 use mathlib.Core.Path.{◌≡◌}
-use Prim.Native.Nat.{◌+◌, ◌*◌, ◌-◌, ◌/◌}
 use native.Mathlib.Omega.{arith}
-use Rattle.query_binder.specs.HopsLaws.{walked_start, next-less, walked_more, walked_all}
+use Rattle.query_binder.specs.HopsLaws.{walked_more, walked_all}
 use Rattle.query_binder.proofs.hops.spread.Goals as goal
 
 pub loop-at-preserved : goal.loop-at-preserved

@@ -1,5 +1,4 @@
 -- `visit` meets its contract: the hops of a pair are silent, ahead or back.
-use native.Mathlib.Omega.{arith}
 use Rattle.query_binder.specs.HopsLaws.{gains_hops}
 use Rattle.query_binder.proofs.hops.visit.Goals as goal
 

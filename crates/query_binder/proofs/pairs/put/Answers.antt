@@ -1,7 +1,6 @@
 -- `put` meets its contract: a pair that is not a member leaves room for one more.
 use native.Mathlib.Omega.{arith}
-use lib.ListN.{length-set}
-use Rattle.query_binder.specs.PairSetsLaws.{put-nothing, put_written}
+use Rattle.query_binder.specs.PairSetsLaws.{put_written}
 use Rattle.query_binder.proofs.pairs.put.Goals as goal
 
 pub returns : goal.returns

@@ -1,7 +1,6 @@
 use Prim.Native.Nat.{◌+◌}
 use native.Mathlib.Omega.{arith}
-use Rattle.query_binder.specs.PairSetsLaws.{set_none, unused-after}
-use Rattle.query_binder.specs.PairReachLaws.{reaching-start, reaching-more, reaching-found, reaching_decides}
+use Rattle.query_binder.specs.PairReachLaws.{reaching-more, reaching-found, reaching_decides}
 use Rattle.query_binder.proofs.reaching.weave.Goals as goal
 
 pub returns-then-pairs-mark-clause-reflects : goal.returns-then-pairs-mark-clause-reflects

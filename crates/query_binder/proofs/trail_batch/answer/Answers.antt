@@ -1,6 +1,5 @@
 -- `answer` meets its contract: `cause_for` and the length judge the question, and `binds` decides one that is not refused.
 use native.Mathlib.Omega.{arith}
-use Rattle.query_binder.specs.PairSetsLaws.{unused-later}
 use Rattle.query_binder.specs.TrailBatchLaws.{asked-refused, asked_long, asked-ground, asked_decided}
 use Rattle.query_binder.proofs.trail_batch.answer.Goals as goal
 

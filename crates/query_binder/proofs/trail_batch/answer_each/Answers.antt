@@ -1,5 +1,4 @@
-use native.Mathlib.Omega.{arith}
-use Rattle.query_answerer.specs.BatchLaws.{whole-fits, going_none, going_next, going_full, going_broken}
+use Rattle.query_answerer.specs.BatchLaws.{going_next, going_full, going_broken}
 use Rattle.query_binder.proofs.trail_batch.answer_each.Goals as goal
 
 pub loop-answered-preserved : goal.loop-answered-preserved
