@@ -1,5 +1,5 @@
 -- `is_empty` meets its contract: the test passes at each place.
-use Rattle.std.proofs.Common.{ℕ, ◌+◌, ◌<◌, ◌≡◌, ◌⊎◌, inl, inr, refl, sym, ◌∙◌, true, true≢false, List, get_or, zero-add, ne_eqb, arith, rules}
+use Rattle.std.proofs.Common.{ℕ, ◌+◌, ◌≡◌, ◌⊎◌, inl, inr, refl, sym, ◌∙◌, true, true≢false, List, get_or, zero-add, ne_eqb, arith, rules}
 use Rattle.std.specs.Prelude.{eqb}
 use Rattle.std.specs.List.{list_all, range_with_len}
 use Rattle.std.proofs.lemmas.Iterator.{YieldsList-from_range}

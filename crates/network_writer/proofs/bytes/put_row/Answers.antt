@@ -6,7 +6,7 @@ use native.Mathlib.Omega.{arith}
 use lib.Bits.{bit_and, mask_lt}
 use Rattle.name_sets.specs.Mask.{has}
 use Rattle.name_sets.specs.MaskLaws.{has_half}
-use Rattle.network_writer.specs.RowBytesLaws.{puts-size, puts-start, puts-next, puts_byte, low_byte}
+use Rattle.network_writer.specs.RowBytesLaws.{puts-start, puts-next, puts_byte, low_byte}
 use Rattle.network_writer.proofs.bytes.put_row.Goals as goal
 use Rattle.network_writer.proofs.bytes.put_row.Goals.{In-loop-to}
 
