@@ -3,23 +3,17 @@ use mathlib.Core.Path.{◌≡◌, ap, ◌∙◌}
 use mir.Val.{bool_byte}
 use Prim.Native.Nat.{suc, ◌+◌}
 use native.Mathlib.Omega.{arith}
-use lib.Bits.{bit_and, mask_lt}
+use lib.Bits.{bit_and}
 use Rattle.name_sets.specs.Mask.{has}
 use Rattle.name_sets.specs.MaskLaws.{has_half}
 use Rattle.network_writer.specs.RowBytesLaws.{puts-start, puts-next, puts_byte, low_byte}
 use Rattle.network_writer.proofs.bytes.put_row.Goals as goal
 use Rattle.network_writer.proofs.bytes.put_row.Goals.{In-loop-to}
 
-pub returns-then-set-eq0 : goal.returns-then-set-eq0
-returns-then-set-eq0 c = rw c.if-set-eq0.true c.put_zeros.ensures
-
 pub loop-to-init : goal.loop-to-init
 loop-to-init c =
     let e : c.args.start + 0 ≡ c.args.start = omega arith in
     (rw e (puts-start (λ b. bool_byte (has c.args.set b) ∷ [])), λ b. ap (has c.args.set) (let d : b ≡ 0 + b = omega arith in d))
-
-pub overflow_cast-network : goal.overflow_cast-network
-overflow_cast-network c = omega (arith, mask_lt c.loop-to.rest 1)
 
 -- the lowest bit that is left is that of the next place
 next-byte : (c : In-loop-to) → bit_and c.loop-to.rest 1 ≡ bool_byte (has c.args.set c.loop-to.to)
