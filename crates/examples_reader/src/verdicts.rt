@@ -45,11 +45,8 @@ pub(crate) fn left(text: &[u8], rule: usize, bytes: &[u8]) {
     io::write_all(1, text);
     label(b" ", rule);
     io::write_all(1, b":");
-    let part = book_left_sides::left_side(bytes, rule);
-    let mut i = 0;
-    while i < part.len() {
-        label(b" ", part[i] as usize);
-        i += 1;
+    for role in book_left_sides::left_side(bytes, rule) {
+        label(b" ", usize::from(*role));
     }
     io::write_all(1, b"\n");
 }
