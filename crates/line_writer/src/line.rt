@@ -40,10 +40,8 @@ pub fn answer_lines(out: &mut [u8], at: usize, number: u64, answers: &[u8]) -> u
         return at;
     }
     let mut end = at;
-    let mut i = 0;
-    while i < answers.len() {
-        end = put_answer(out, end, number + i as u64, answers[i]);
-        i += 1;
+    for (i, answer) in answers.iter().enumerate() {
+        end = put_answer(out, end, number + i as u64, *answer);
     }
     end
 }
@@ -52,13 +50,7 @@ pub fn answer_lines(out: &mut [u8], at: usize, number: u64, answers: &[u8]) -> u
 fn has_room(size: usize, at: usize, number: u64, count: usize) -> bool
     ensures { HasRoom size at number count result }
 {
-    if size < at {
-        return false;
-    }
-    if (size - at) / 64 < count {
-        return false;
-    }
-    count as u64 <= u64::MAX - number
+    at <= size && count <= (size - at) / 64 && count as u64 <= u64::MAX - number
 }
 
 // Puts the line of a question that is answered by this byte at a place; returns the place after it.
@@ -80,10 +72,7 @@ fn put_answer(out: &mut [u8], at: usize, number: u64, answer: u8) -> usize
 pub fn last_line(number: u64, input: &[u8], line: &mut [u8; 64]) -> usize
     ensures { Puts line.old 0 (ending number input.now) line.new result }
 {
-    if input.len() == 0 {
-        return 0;
-    }
-    if is_whole(input) {
+    if input.is_empty() || is_whole(input) {
         return 0;
     }
     put_number(line, 0, number, b" cut\n")

@@ -48,20 +48,21 @@ fn ahead(
     requires pair_set { PairSet room stamp pairs.old count }
     ensures { Gains room stamp (Ahead moves.now chain.now from place) pairs.old count pairs.new result }
 {
-    if chain.len() <= place {
-        return count;
+    if place < chain.len() {
+        spread(
+            moves,
+            room,
+            index,
+            from,
+            chain[place],
+            place + 1,
+            pairs,
+            stamp,
+            count,
+        )
+    } else {
+        count
     }
-    spread(
-        moves,
-        room,
-        index,
-        from,
-        chain[place],
-        place + 1,
-        pairs,
-        stamp,
-        count,
-    )
 }
 
 // Adds those along the link before, backwards.
@@ -81,23 +82,21 @@ fn back(
     requires pair_set { PairSet room stamp pairs.old count }
     ensures { Gains room stamp (Back moves.now chain.now from place) pairs.old count pairs.new result }
 {
-    if place == 0 {
-        return count;
+    if 0 < place && place <= chain.len() {
+        spread(
+            moves,
+            room,
+            index,
+            from,
+            inverse(chain[place - 1]),
+            place - 1,
+            pairs,
+            stamp,
+            count,
+        )
+    } else {
+        count
     }
-    if chain.len() < place {
-        return count;
-    }
-    spread(
-        moves,
-        room,
-        index,
-        from,
-        inverse(chain[place - 1]),
-        place - 1,
-        pairs,
-        stamp,
-        count,
-    )
 }
 
 // Adds, at one place, the states to which transitions with the label lead from one state; returns the count.
@@ -143,9 +142,10 @@ fn meet(
     requires pair_set { PairSet room stamp pairs.old count }
     ensures { Gains room stamp (Meets moves.now k label place) pairs.old count pairs.new result }
 {
-    if moves[3 * k + 1] != label as u16 {
-        return count;
+    if moves[3 * k + 1] == label as u16 {
+        let to = moves[3 * k + 2] as usize;
+        put(pairs, room, stamp, count, 32 * to + place)
+    } else {
+        count
     }
-    let to = moves[3 * k + 2] as usize;
-    put(pairs, room, stamp, count, 32 * to + place)
 }

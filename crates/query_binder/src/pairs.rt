@@ -27,10 +27,6 @@ pub(crate) fn renew(pairs: &mut [u16], room: usize, stamp: u16) -> u16
     if stamp <= 64000 {
         return stamp;
     }
-    let mut i = 32 * room;
-    while i < pairs.len() {
-        pairs[i] = 0;
-        i += 1;
-    }
+    pairs[32 * room..].fill(0);
     1
 }

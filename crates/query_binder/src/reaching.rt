@@ -63,7 +63,8 @@ pub(crate) fn binds(
 {
     let last = chain.len();
     if is_inverse(role) {
-        return weave(moves, room, index, chain, head, last, 0, stamp, pairs);
+        weave(moves, room, index, chain, head, last, 0, stamp, pairs)
+    } else {
+        weave(moves, room, index, chain, head, 0, last, stamp, pairs)
     }
-    weave(moves, room, index, chain, head, 0, last, stamp, pairs)
 }

@@ -7,43 +7,24 @@ ghost use Rattle.query_binder.specs.SmallTables.{LowHeads, LowStates, Small};
 pub(crate) fn is_small(heads: &[u16], moves: &[u16]) -> bool
     ensures { result ≡ true → Small heads.now moves.now }
 {
-    if 576 < moves.len() {
-        return false;
-    }
-    if !heads_low(heads) {
-        return false;
-    }
-    states_low(moves)
+    moves.len() <= 576 && heads_low(heads) && states_low(moves)
 }
 
 // Whether each initial state is below 63.
 fn heads_low(heads: &[u16]) -> bool
     ensures { result ≡ true → LowHeads heads.now (length heads.now) }
 {
-    let mut i = 0;
-    while i < heads.len() {
-        if 63 <= heads[i] {
-            return false;
-        }
-        i += 1;
-    }
-    true
+    heads.iter().all(|head| *head < 63)
 }
 
 // Whether the transitions are between states below 64.
 fn states_low(moves: &[u16]) -> bool
     ensures { result ≡ true → LowStates moves.now (transition_count moves.now) }
 {
-    let count = moves.len() / 3;
-    let mut k = 0;
-    while k < count {
-        if 64 <= moves[3 * k] {
+    for k in 0..moves.len() / 3 {
+        if 64 <= moves[3 * k] || 64 <= moves[3 * k + 2] {
             return false;
         }
-        if 64 <= moves[3 * k + 2] {
-            return false;
-        }
-        k += 1;
     }
     true
 }

@@ -1,10 +1,9 @@
 // Many questions put to the same tables, which are checked and indexed once. The questions follow one another as on the program's input: role byte,
 // number of links (16 bits, low byte first), links.
-ghost use Rattle.std.specs.Prelude.{◌≡◌, ◌+◌, ◌<◌, drop};
+ghost use Rattle.std.specs.Prelude.{◌≡◌, ◌+◌, ◌*◌, ◌<◌, ◌≤◌, drop, replicate};
 ghost use Rattle.query_answerer.specs.Batch.{Batches};
 ghost use Rattle.query_causes.specs.ManyQueries.{names_in, whole_size};
 ghost use Rattle.query_binder.specs.PairSets.{Unused};
-ghost use Rattle.query_binder.specs.SmallTables.{Small};
 ghost use Rattle.query_binder.specs.TrailBatch.{Held, Tabled, AnsweredAt};
 ghost use Rattle.query_correctness.specs.TrailQuery.{AnsweredByTrails};
 
@@ -24,31 +23,28 @@ pub fn bind_all(heads: &[u16], moves: &[u16], input: &[u8], answers: &mut [u8]) 
     ensures { Batches (AnsweredByTrails heads.now moves.now) input.now answers.old answers.new result }
 {
     if is_small(heads, moves) {
-        return bind_few(heads, moves, input, answers);
+        bind_in::<64, 320, 4096>(heads, moves, input, answers)
+    } else {
+        bind_in::<2048, 9216, 131072>(heads, moves, input, answers)
     }
-    bind_many(heads, moves, input, answers)
 }
 
-// For small tables: arrays for 64 states and 192 transitions.
-fn bind_few(heads: &[u16], moves: &[u16], input: &[u8], answers: &mut [u8]) -> Batch
-    requires { Small heads.now moves.now }
+// The same in fresh arrays for tables with so many states: an index of them and of their transitions, and a set of pairs.
+fn bind_in<const ROOM: usize, const INDEX: usize, const PAIRS: usize>(
+    heads: &[u16],
+    moves: &[u16],
+    input: &[u8],
+    answers: &mut [u8],
+) -> Batch
+    requires held { (names_in heads.now moves.now ≡ 0 → ⊥) → Held ROOM heads.now moves.now (replicate INDEX 0) 0 }
+    requires sizes { (ROOM ≤ 2048) × (INDEX ≤ 9216) × (PAIRS ≡ 64 * ROOM) }
     ensures { Batches (AnsweredByTrails heads.now moves.now) input.now answers.old answers.new result }
 {
-    let mut index = [0u16; 320];
-    let mut pairs = [0u16; 4096];
-    let names = prepare(heads, moves, 64, &mut index);
-    answer_each(heads, moves, 64, &index, names, input, answers, &mut pairs)
-}
-
-// For all tables: arrays for 2,048 states and 5,120 transitions.
-fn bind_many(heads: &[u16], moves: &[u16], input: &[u8], answers: &mut [u8]) -> Batch
-    ensures { Batches (AnsweredByTrails heads.now moves.now) input.now answers.old answers.new result }
-{
-    let mut index = [0u16; 9216];
-    let mut pairs = [0u16; 131072];
-    let names = prepare(heads, moves, 2048, &mut index);
+    let mut index = [0u16; INDEX];
+    let mut pairs = [0u16; PAIRS];
+    let names = prepare(heads, moves, ROOM, &mut index);
     answer_each(
-        heads, moves, 2048, &index, names, input, answers, &mut pairs,
+        heads, moves, ROOM, &index, names, input, answers, &mut pairs,
     )
 }
 
@@ -94,10 +90,7 @@ fn answer_each(
         read += size;
         answered += 1;
     }
-    Batch {
-        answered: answered,
-        read: read,
-    }
+    Batch { answered, read }
 }
 
 // Answers one question, so many bytes from a place of the input on, with a byte.

@@ -13,12 +13,10 @@ pub(crate) fn fill(moves: &[u16], room: usize, index: &mut [u16])
 {
     let count = moves.len() / 3;
     let chained = 2 * room;
-    let mut k = 0;
-    while k < count {
+    for k in 0..count {
         let list = list_at(moves, k);
         index[chained + k] = index[list];
         index[list] = (k + 1) as u16;
-        k += 1;
     }
 }
 

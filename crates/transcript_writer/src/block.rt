@@ -7,7 +7,6 @@ ghost use Rattle.transcript_writer.specs.Opened.{heads_in, moves_in};
 ghost use Rattle.transcript_writer.specs.Advances.{AnswersBlock, Advances, LinesIn};
 
 use crate::opening::Tables;
-use byte_parts::least;
 use line_writer::{answer_lines, is_whole};
 use query_binder::bind_all;
 
@@ -32,12 +31,12 @@ pub fn answer_block(
 ) -> Progress
     ensures { AnswersBlock (AnsweredByTrails (heads_in tables) (moves_in tables)) number input.old end out.old input.new out.new result }
 {
-    let size = least(end, input.len());
+    let size = end.min(input.len());
     let reached = answer_each(tables, number, &input[..size], out);
     let kept = keep(input, reached.read, size);
     Progress {
         number: reached.number,
-        kept: kept,
+        kept,
         written: reached.written,
         left: is_whole(&input[..kept]),
     }
@@ -57,8 +56,8 @@ fn answer_each(tables: Tables, number: u64, input: &[u8], out: &mut [u8]) -> Rea
 {
     let heads = tables.heads;
     let moves = tables.moves;
-    let names = least(tables.names, 64);
-    let numbers = 3 * least(tables.transitions, 5120);
+    let names = tables.names.min(64);
+    let numbers = 3 * tables.transitions.min(5120);
     let mut next = number;
     let mut read = 0;
     let mut written = 0;
@@ -79,8 +78,8 @@ fn answer_each(tables: Tables, number: u64, input: &[u8], out: &mut [u8]) -> Rea
     }
     Reached {
         number: next,
-        read: read,
-        written: written,
+        read,
+        written,
     }
 }
 
@@ -89,10 +88,11 @@ fn answer_each(tables: Tables, number: u64, input: &[u8], out: &mut [u8]) -> Rea
 fn lines_in(more: bool, room: usize, number: u64) -> usize
     ensures { LinesIn more room number result }
 {
-    if !more {
-        return 0;
+    if more {
+        (room / 64).min(1024).min((u64::MAX - number) as usize)
+    } else {
+        0
     }
-    least(least(room / 64, 1024), (u64::MAX - number) as usize)
 }
 
 // Moves the bytes from one place up to another to the front of the buffer, and returns how many there are.
@@ -100,11 +100,6 @@ fn keep(buffer: &mut [u8], from: usize, end: usize) -> usize
     requires { (from ≤ end) × (end ≤ length buffer.old) }
     ensures { Puts buffer.old 0 (slice from end buffer.old) buffer.new result }
 {
-    let size = end - from;
-    let mut i = 0;
-    while i < size {
-        buffer[i] = buffer[from + i];
-        i += 1;
-    }
-    i
+    buffer.copy_within(from..end, 0);
+    end - from
 }

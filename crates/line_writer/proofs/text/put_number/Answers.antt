@@ -1,15 +1,7 @@
 -- `put_number` meets its contract: the fewest digits that hold the number are its decimal digits.
-use native.Mathlib.Omega.{arith}
 use borrow.Author.Rules.{rules}
-use Rattle.line_writer.specs.PutsLaws.{puts-length}
 use Rattle.line_writer.specs.SaidLaws.{number_digits, puts-number}
 use Rattle.line_writer.proofs.text.put_number.Goals as goal
-
-pub put-end-requires : goal.put-end-requires
-put-end-requires c = omega (arith, (number_digits _ _ _ (c.decimal-size.ensures.in_bounds, (c.decimal-size.ensures.len, c.decimal-size.ensures.digits)) (search rules)).1, c.requires)
-
-pub put-requires : goal.put-requires
-put-requires c = let put = c.put-end.ensures in omega (arith, (number_digits _ _ _ (c.decimal-size.ensures.in_bounds, (c.decimal-size.ensures.len, c.decimal-size.ensures.digits)) (search rules)).1, put.ends, puts-length put, c.requires)
 
 pub returns : goal.returns
 returns c = puts-number (number_digits _ _ _ (c.decimal-size.ensures.in_bounds, (c.decimal-size.ensures.len, c.decimal-size.ensures.digits)) (search rules)) c.put-end.ensures c.put.ensures

@@ -5,11 +5,5 @@ use Rattle.query_binder.proofs.reaching.binds.Goals as goal
 pub returns-then-is_inverse-clause-reflects : goal.returns-then-is_inverse-clause-reflects
 returns-then-is_inverse-clause-reflects c = ends-inverse c.args.moves.now c.args.role c.args.chain.now c.args.head c.is_inverse.ensures c.if-is_inverse.true c.weave.ensures.reflects
 
-pub returns-then-is_inverse-clause-unused_2 : goal.returns-then-is_inverse-clause-unused_2
-returns-then-is_inverse-clause-unused_2 c = c.weave.ensures.unused_2
-
-pub returns-clause-reflects : goal.returns-clause-reflects
-returns-clause-reflects c = ends-name c.args.moves.now c.args.role c.args.chain.now c.args.head c.is_inverse.ensures c.if-is_inverse.false c.weave-2.ensures.reflects
-
-pub returns-clause-unused_2 : goal.returns-clause-unused_2
-returns-clause-unused_2 c = c.weave-2.ensures.unused_2
+pub returns-else-is_inverse-clause-reflects : goal.returns-else-is_inverse-clause-reflects
+returns-else-is_inverse-clause-reflects c = ends-name c.args.moves.now c.args.role c.args.chain.now c.args.head c.is_inverse.ensures c.if-is_inverse.false c.weave-else-is_inverse.ensures.reflects
