@@ -81,7 +81,7 @@ fn read_full<R: Read>(reader: &mut R, buffer: &mut [u8]) -> usize
     done
 }
 
-// Answers questions until the input ends. A proved loop has to end, so this one counts its turns down from a number that no run uses up.
+// Answers questions until the input ends. A proved loop has to end, so this one has a number of turns that no run uses up.
 fn serve<R: Input + Print>(rt: &R, tables: Tables) -> Stop
     ensures { Served (AnsweredByTrails (heads_in tables) (moves_in tables)) result }
 {
@@ -91,8 +91,10 @@ fn serve<R: Input + Print>(rt: &R, tables: Tables) -> Stop
     let mut number = 0u64;
     let mut kept = 0;
     let mut left = false;
-    let mut turns = u64::MAX;
-    while 0 < turns && number < u64::MAX {
+    for _ in 0..u64::MAX {
+        if number >= u64::MAX {
+            break;
+        }
         let end = read_more(&mut reader, &mut input, kept, left);
         if ended(kept, end, left) {
             return finish(rt, number, kept, &input);
@@ -105,7 +107,6 @@ fn serve<R: Input + Print>(rt: &R, tables: Tables) -> Stop
         if rt.write_all(&out[..written]).is_err() {
             return Stop::Unwritten;
         }
-        turns -= 1;
     }
     Stop::Exhausted
 }
