@@ -1,5 +1,6 @@
 -- From a build to what opening promises, and the tables that an accepted book is opened with.
 use Rattle.std.specs.Prelude.{List, ◌≡◌, refl, ℕ, ◌*◌, length, take}
+use Rattle.std.specs.Prelude.{Result as Outcome}
 use Rattle.std.proofs.Common.{sym, ap, ◌∙◌}
 use Rattle.roles.specs.Rule.{Book}
 use Rattle.tables.specs.Tables.{transitions}
@@ -8,7 +9,8 @@ use Rattle.base.specs.Result.Result.{refused, ok}
 use Rattle.book_causes.specs.Accepted.{count_of, summary, heads_of, moves_of, built, count_or_none}
 use Rattle.base.specs.Writing.{over}
 use Rattle.table_laying.specs.Pieces.{length-numbers, length-roots}
-use Rattle.table_limits.specs.declared.Outcome.{Outcome}
+use Rattle.refusals.specs.declared.build.BuildRefusal.{BuildRefusal}
+use Rattle.table_limits.specs.declared.Counts.{Counts}
 use Rattle.table_builder.specs.Builds.{counts_of, says, Builds}
 use Rattle.base.specs.WritingLaws.{over-front}
 use Rattle.transcript_lines.specs.Lines.{first_line}
@@ -45,7 +47,7 @@ transitions-reported : (t : Result Book) → (report_of t).transitions ≡ count
 transitions-reported (refused cause value) = refl
 transitions-reported (ok b) = refl
 
-pub opened : (s h m h' m' line line' : List ℕ) (size : ℕ) {o : Outcome} {r : Report} → length h ≡ 64 → length m ≡ 15360 → Builds s h m h' m' o
+pub opened : (s h m h' m' line line' : List ℕ) (size : ℕ) {o : Outcome Counts BuildRefusal} {r : Report} → length h ≡ 64 → length m ≡ 15360 → Builds s h m h' m' o
     → r ≡ reported (says o) → Puts line 0 (report_line r) line' size
     → Opens s h m line line'
     (record { tables = record { heads = h'; moves = m'; names = r.names; transitions = r.transitions }; written = size; accepted = r.accepted })
@@ -60,10 +62,6 @@ opened s h m h' m' line line' size {r = r} heads moves p e puts =
       names = ap (λ (x : Report). x.names) f ∙ names-reported t;
       transitions = ap (λ (x : Report). x.transitions) f ∙ transitions-reported t;
     }
-
--- what a report says of each outcome
-pub reported_as : (o v : Outcome) {r : Report} → o ≡ v → r ≡ reported (says v) → r ≡ reported (says o)
-reported_as o v e f = f ∙ ap (λ (x : Outcome). reported (says x)) (sym e)
 
 -- the numbers that count are the tables of the book
 module _ {s h m line line' : List ℕ} {r : Opening} (o : Opens s h m line line' r) (b : Book) (e : built s 64 15360 ≡ ok b) where

@@ -4,7 +4,8 @@ ghost use Rattle.table_builder.specs.Builds.{says};
 ghost use Rattle.transcript_writer.specs.Opened.{reported, Opens};
 
 use line_writer::first_line;
-use table_builder::Outcome;
+use refusals::{BuildRefusal, Refusal};
+use table_builder::Counts;
 
 // The tables of a book as one build has written them, with how many of their numbers count.
 #[derive(Clone, Copy)]
@@ -60,11 +61,11 @@ struct Report {
 }
 
 // What the build of a book says, in numbers.
-fn in_numbers(outcome: Outcome) -> Report
-    ensures { result ≡ reported (says outcome) }
+fn in_numbers(build: Result<Counts, BuildRefusal>) -> Report
+    ensures { result ≡ reported (says build) }
 {
-    match outcome {
-        Outcome::Built(counts) => Report {
+    match build {
+        Ok(counts) => Report {
             accepted: true,
             first: counts.states as u64,
             second: counts.transitions as u64,
@@ -72,10 +73,10 @@ fn in_numbers(outcome: Outcome) -> Report
             names: counts.names,
             transitions: counts.transitions,
         },
-        Outcome::Refused(refusal) => Report {
+        Err(refusal) => Report {
             accepted: false,
-            first: refusals::build_cause(refusal) as u64,
-            second: refusals::build_value(refusal) as u64,
+            first: refusal.cause() as u64,
+            second: refusal.value() as u64,
             third: 0,
             names: 0,
             transitions: 0,
