@@ -1,5 +1,6 @@
 // What the program writes.
-use table_builder::Outcome;
+use refusals::{BuildRefusal, Refusal};
+use table_builder::Counts;
 
 pub(crate) fn line(text: &[u8]) {
     io::write_all(1, text);
@@ -18,16 +19,16 @@ pub(crate) fn built(text: &[u8], book: &[u8], heads: &mut [u16], moves: &mut [u1
     line(b"");
 }
 
-fn outcome(outcome: Outcome) {
+fn outcome(outcome: Result<Counts, BuildRefusal>) {
     match outcome {
-        Outcome::Built(counts) => {
+        Ok(counts) => {
             label(b": states ", counts.states);
             label(b", transitions ", counts.transitions);
             label(b", depth ", counts.depth);
         }
-        Outcome::Refused(refusal) => {
-            label(b": refused ", refusals::build_cause(refusal));
-            label(b" ", refusals::build_value(refusal));
+        Err(refusal) => {
+            label(b": refused ", refusal.cause());
+            label(b" ", refusal.value());
         }
     }
 }

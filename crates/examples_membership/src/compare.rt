@@ -3,7 +3,7 @@ use crate::chain::{size, spelled};
 use crate::counts::Counts;
 use crate::questions::{Kind, Question};
 use crate::second::derives;
-use query_answerer::Answer;
+use refusals::{QueryRefusal, Refusal};
 
 // Puts a question to tables and to rules, and counts it by its kind: asked, agreed on, and answered by yes.
 pub(crate) fn compare(
@@ -32,10 +32,9 @@ fn first_count(kind: Kind) -> usize {
 }
 
 // Yes or no, or the cause of the refusal.
-pub(crate) fn said(answer: Answer) -> Result<bool, usize> {
+pub(crate) fn said(answer: Result<bool, QueryRefusal>) -> Result<bool, usize> {
     match answer {
-        Answer::Yes => Ok(true),
-        Answer::No => Ok(false),
-        Answer::Refused(refusal) => Err(refusals::query_cause(refusal)),
+        Ok(found) => Ok(found),
+        Err(refusal) => Err(refusal.cause()),
     }
 }

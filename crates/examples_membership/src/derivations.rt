@@ -13,7 +13,7 @@ use crate::make::make_book;
 use crate::questions::{Question, draw_question};
 use crate::rules::rules_of;
 use crate::slow_reading::{Reading, read};
-use crate::written::{BLANK, blank, reading_of, split_written, told_by_checker, told_by_writer};
+use crate::written::{BLANK, blank, reading_of, split_written};
 use byte_parts::byte;
 use refusals::BookQueryRefusal;
 
@@ -82,7 +82,7 @@ fn derive(
     let links = &space[..size(question.chain)];
     let answer = said(query_answerer::ask(heads, moves, role, links));
     let mut buffer = [BLANK; 16384];
-    let told = told_by_writer(derivation_writer::write(book, role, links, &mut buffer));
+    let told = derivation_writer::write(book, role, links, &mut buffer);
     let agreed = matches!((told, answer), (Ok(steps), Ok(yes)) if steps.is_some() == yes);
     counts.count(ASKED, &[true, agreed]);
     check(book, rules, role, links, told, &buffer, counts);
@@ -130,7 +130,7 @@ struct Judged {
 
 fn judge(book: &[u8], rules: &[u64; 192], role: u8, links: &[u8], steps: &[u8]) -> Judged {
     Judged {
-        first: reading_of(told_by_checker(derivation_checker::check(book, role, links, steps))),
+        first: reading_of(derivation_checker::check(book, role, links, steps)),
         second: read(rules, usize::from(byte(book, 6)), role, links, steps),
     }
 }

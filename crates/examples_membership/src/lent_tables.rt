@@ -1,5 +1,5 @@
 // Tables that are lent to the builder.
-use table_builder::Outcome;
+use refusals::Refusal;
 
 // How many heads and moves a table can have.
 pub(crate) const ROOM: usize = 15363;
@@ -14,17 +14,13 @@ pub(crate) struct Sizes {
 
 // Builds a book in tables, or gives the cause of the refusal; then they stay as they are.
 pub(crate) fn build(book: &[u8], heads: &mut [u16], moves: &mut [u16]) -> Result<Sizes, usize> {
-    sizes_of(table_builder::build(book, heads, moves))
-}
-
-fn sizes_of(outcome: Outcome) -> Result<Sizes, usize> {
-    match outcome {
-        Outcome::Built(built) => Ok(Sizes {
+    match table_builder::build(book, heads, moves) {
+        Ok(built) => Ok(Sizes {
             heads: built.names,
             moves: built.transitions.saturating_mul(3),
             states: built.states,
         }),
-        Outcome::Refused(refusal) => Err(refusals::build_cause(refusal)),
+        Err(refusal) => Err(refusal.cause()),
     }
 }
 

@@ -1,9 +1,9 @@
 // Lines of the script that ask the writer and the checker of derivations: a book, a role and a chain; for the checker also eight bytes, how often
 // they stand there, and the bytes behind them.
 use crate::script_numbers::{List, Numbers};
-use crate::written::{BLANK, blank, split_written, told_by_checker, told_by_writer};
+use crate::written::{BLANK, blank, split_written};
 use byte_parts::{byte, part};
-use refusals::BookQueryRefusal;
+use refusals::{BookQueryRefusal, Refusal};
 
 // A book, a role and a chain.
 #[derive(Clone, Copy)]
@@ -36,7 +36,7 @@ pub(crate) fn ask_short(numbers: &mut Numbers) {
 fn ask_with(asked: &Asked, buffer: &mut [u8]) {
     let book = asked.book.bytes();
     let links = asked.chain.bytes();
-    let told = told_by_writer(derivation_writer::write(book, asked.role, links, buffer));
+    let told = derivation_writer::write(book, asked.role, links, buffer);
     let (steps, behind) = split_written(buffer, told);
     match told {
         Ok(Some(count)) => {
@@ -44,7 +44,7 @@ fn ask_with(asked: &Asked, buffer: &mut [u8]) {
             label(b": yes, steps ", count);
             label(
                 b", accepted ",
-                usize::from(matches!(told_by_checker(checked), Ok(true))),
+                usize::from(matches!(checked, Ok(true))),
             );
         }
         Ok(None) => {
@@ -63,8 +63,8 @@ fn label(text: &[u8], n: usize) {
 
 // The cause of a refusal and the value beside it.
 fn tell_refusal(refusal: BookQueryRefusal) {
-    label(b": refused ", refusals::book_query_cause(refusal));
-    label(b" ", refusals::book_query_value(refusal));
+    label(b": refused ", refusal.cause());
+    label(b" ", refusal.value());
 }
 
 // Asks the checker.
@@ -87,7 +87,7 @@ fn tell_check(asked: &Asked, steps: &[u8]) {
         asked.chain.bytes(),
         steps,
     );
-    match told_by_checker(checked) {
+    match checked {
         Ok(true) => {
             io::write_all(1, b": yes");
         }

@@ -1,29 +1,9 @@
 // What the writer and the checker of derivations tell.
 use crate::slow_reading::Reading;
-use book_questions::BookAnswer;
-use derivation_writer::Derivation;
 use refusals::BookQueryRefusal;
 
 // What a buffer is filled with before it is lent.
 pub(crate) const BLANK: u8 = 165;
-
-// How many steps the writer wrote; none where the chain is not derived.
-pub(crate) fn told_by_writer(derivation: Derivation) -> Result<Option<usize>, BookQueryRefusal> {
-    match derivation {
-        Derivation::None => Ok(None),
-        Derivation::Steps(count) => Ok(Some(count)),
-        Derivation::Refused(refusal) => Err(refusal),
-    }
-}
-
-// Whether the checker accepts the steps.
-pub(crate) fn told_by_checker(answer: BookAnswer) -> Result<bool, BookQueryRefusal> {
-    match answer {
-        BookAnswer::No => Ok(false),
-        BookAnswer::Yes => Ok(true),
-        BookAnswer::Refused(refusal) => Err(refusal),
-    }
-}
 
 // A buffer in two: the steps that are written, and the bytes behind them.
 pub(crate) fn split_written(

@@ -1,5 +1,6 @@
 // What the program writes.
-use book_decoder::Verdict;
+use book_decoder::Header;
+use refusals::{BookRefusal, Refusal};
 
 pub(crate) fn line(text: &[u8]) {
     io::write_all(1, text);
@@ -27,15 +28,15 @@ pub(crate) fn verdicts(text: &[u8], bytes: &[u8]) {
     io::write_all(1, b"\n");
 }
 
-fn said(verdict: Verdict) {
+fn said(verdict: Result<Header, BookRefusal>) {
     match verdict {
-        Verdict::WellFormed(header) => {
+        Ok(header) => {
             label(b": well-formed, names ", header.names);
             label(b", rules ", header.rules);
         }
-        Verdict::Refused(refusal) => {
-            label(b": refused ", refusals::book_cause(refusal));
-            label(b" ", refusals::book_value(refusal));
+        Err(refusal) => {
+            label(b": refused ", refusal.cause());
+            label(b" ", refusal.value());
         }
     }
 }
