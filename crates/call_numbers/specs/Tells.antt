@@ -44,8 +44,8 @@ pub record Tells (r : Result Numbers) (cause first second third : ℕ) : Type 0 
 abbrev pub header_counts : ℕ → Header → Numbers
 header_counts depth h = record { one = h.names; two = h.rules; three = depth }
 
-abbrev pub order_counts : Ordering → Numbers
-order_counts o = header_counts o.depth o.header
+abbrev pub ordering_counts : Ordering → Numbers
+ordering_counts o = header_counts o.depth o.header
 
 -- how many states and transitions, and the depth
 abbrev pub built_counts : Counts → Numbers

@@ -4,7 +4,7 @@
 ghost use Rattle.base.specs.Result.{map_result};
 ghost use Rattle.base.specs.Result.Result.{ok};
 ghost use Rattle.refusals.specs.Said.{said};
-ghost use Rattle.call_numbers.specs.Tells.{Numbers, Tells, header_counts, order_counts, built_counts, bit, steps_numbers};
+ghost use Rattle.call_numbers.specs.Tells.{Numbers, Tells, header_counts, ordering_counts, built_counts, bit, steps_numbers};
 
 use book_header::Header;
 use order_checker::Ordering;
@@ -57,7 +57,7 @@ impl Telling for Header {
 
 // How many names and rules a book has, and its depth.
 impl Telling for Ordering {
-    ghost numbers_of = { order_counts };
+    ghost numbers_of = { ordering_counts };
 
     fn told(&self) -> Told {
         accepted(self.header.names, self.header.rules, self.depth)

@@ -1,7 +1,7 @@
 -- From what the engine's calls answer to what is told of it.
 use Rattle.std.specs.Prelude.{Result as Answer}
 use Rattle.std.specs.Prelude.{Some, None, Ok, Err, Bool, true, false, List, ◌≡◌, refl, ℕ, length, take, replicate}
-use Rattle.std.proofs.Common.{sym, ap, ◌∙◌}
+use Rattle.std.proofs.Common.{sym, ap, ap₂, ◌∙◌, subst}
 use Rattle.std.proofs.Math.Seq.{take-nil}
 use Rattle.roles.specs.Role.{Chain}
 use Rattle.roles.specs.Rule.{Book}
@@ -22,7 +22,7 @@ use Rattle.book_decoder.specs.Verdict.{header_of}
 use Rattle.book_causes.specs.Ordered.{ordered}
 use Rattle.book_causes.specs.Accepted.{levels_of, depth_of, count_or_none, built, written}
 use Rattle.order_checker.specs.declared.Ordering.{Ordering}
-use Rattle.order_checker.specs.Gather.{Ordered}
+use Rattle.order_checker.specs.Gather.{header_said, Ordered}
 use Rattle.query_causes.specs.Query.{Answered}
 use Rattle.query_parts.specs.Answer as answers
 use Rattle.table_builder.specs.Builds as builder
@@ -32,8 +32,8 @@ use Rattle.query_deriver.specs.Replies as replies
 use Rattle.book_questions.specs.Admission.{BookAnswer, answers}
 use Rattle.derivation_writer.specs.WritesDerivation.{Derivation, writable, Writes}
 use Rattle.network_writer.specs.WritesNetwork.{bindable, Answers}
-use Rattle.call_numbers.specs.Tells.{Numbers, Tells, order_counts, built_counts, bit, derivation_numbers}
-use Rattle.rabbitsteel.specs.Calls.{book_counts, TellsOrder, TellsBuild, TellsAnswer, TellsDerived, TellsDerivation, TellsBinding}
+use Rattle.call_numbers.specs.Tells.{Numbers, Tells, header_counts, ordering_counts, built_counts, bit, derivation_numbers}
+use Rattle.rabbitsteel.specs.Calls.{book_counts, order_counts, TellsOrder, TellsBuild, TellsAnswer, TellsDerived, TellsDerivation, TellsBinding}
 
 -- what is told of an answer is told of the definition that it equals
 pub told_of : {A B : Type 0} (f : A → B) (g : B → Numbers) (x : Result A) {v : Result B} {cause one two three : ℕ} → v ≡ map_result f x
@@ -48,23 +48,31 @@ two-told (refused c v) t = record { cause_is = t.cause_is; first_is = t.first_is
 two-told (ok b) t = record { cause_is = t.cause_is; first_is = t.first_is; second_is = t.second_is; third_is = refl }
 
 -- what the order check's answer tells, and its levels, as many as the book has names
-pub tells-order : {s : List ℕ} (o : Answer Ordering BookRefusal) → Ordered s o → {l l' : List ℕ}
-    → ((found : Ordering) → o ≡ Ok found → l' ≡ copied found.levels found.header.names l) → ((refusal : BookRefusal) → o ≡ Err refusal → l' ≡ l)
-    → {cause one two three : ℕ} → Tells (map_result order_counts (said book_cause book_value o)) cause one two three → TellsOrder s l l' cause one two three
-tells-order {s} (Err refusal) p {l} {l'} levels kept t =
-    let q : ordered s ≡ refused (book_cause refusal) (book_value refusal) = map_refused header_of (ordered s) p.verdict in
-    record { tells = rw q t; levels = rw q (kept refusal refl) }
-tells-order {s} (Ok found) p {l} {l'} levels kept t =
-    let b : (b : Book) × (ordered s ≡ ok b) × (found.header ≡ header_of b) = map_ok header_of (ordered s) p.verdict in
-    let n : found.header.names ≡ b.0.names = ap (λ (x : Header). x.names) b.2 in
-    let d : found.depth ≡ depth_of b.0 = p.depth found refl ∙ ap (count_or_none depth_of) b.1 in
-    let k : found.levels ≡ over (levels_of b.0) (replicate 64 0) = p.levels found refl ∙ ap (λ (t : Result Book). written t levels_of (replicate 64 0)) b.1 in
-    let f : take found.header.names found.levels ≡ levels_of b.0
-    = ap (take found.header.names) k ∙ over-front found.header.names (levels_of b.0) (replicate 64 0) (n ∙ sym (levels-length b.0.rules b.0.names b.0.names 0)) in
-    record {
-      tells = rw b.1 (rw (b.2, d) at t);
-      levels = rw b.1 (levels found refl ∙ ap (λ (r : List ℕ). over (take (length l) r) l) f);
-    }
+module _ {s : List ℕ} {l l' : List ℕ} where
+  pub tells-order : (o : Answer Ordering BookRefusal) → Ordered s o → (found : Ordering) → o ≡ Ok found → l' ≡ copied found.levels found.header.names l
+      → {cause one two three : ℕ} → Tells (map_result ordering_counts (said book_cause book_value o)) cause one two three → TellsOrder s l l' cause one two three
+  tells-order o p found e levels {cause} {one} {two} {three} t =
+      let b : (b : Book) × (ordered s ≡ ok b) × (found.header ≡ header_of b) = map_ok header_of (ordered s) (ap header_said (sym e) ∙ p.verdict) in
+      let n : found.header.names ≡ b.0.names = ap (λ (x : Header). x.names) b.2 in
+      let d : found.depth ≡ depth_of b.0 = p.depth found e ∙ ap (count_or_none depth_of) b.1 in
+      let k : found.levels ≡ over (levels_of b.0) (replicate 64 0) = p.levels found e ∙ ap (λ (t : Result Book). written t levels_of (replicate 64 0)) b.1 in
+      let f : take found.header.names found.levels ≡ levels_of b.0
+      = ap (take found.header.names) k ∙ over-front found.header.names (levels_of b.0) (replicate 64 0) (n ∙ sym (levels-length b.0.rules b.0.names b.0.names 0)) in
+      let told : map_result ordering_counts (said book_cause book_value o) ≡ map_result order_counts (ordered s)
+      = ap (λ (x : Answer Ordering BookRefusal). map_result ordering_counts (said book_cause book_value x)) e
+      ∙ ap₂ (λ (depth : ℕ) (h : Header). ok (header_counts depth h)) d b.2
+      ∙ sym (ap (map_result order_counts) b.1) in
+      record {
+        tells = subst (λ (x : Result Numbers). Tells x cause one two three) told t;
+        levels = rw b.1 (levels ∙ ap (λ (r : List ℕ). over (take (length l) r) l) f);
+      }
+
+  pub tells-no_order : (o : Answer Ordering BookRefusal) → Ordered s o → ((found : Ordering) → o ≡ Ok found → ⊥) → l' ≡ l
+      → {cause one two three : ℕ} → Tells (map_result ordering_counts (said book_cause book_value o)) cause one two three → TellsOrder s l l' cause one two three
+  tells-no_order (Ok found) p none same t = absurd (none found refl)
+  tells-no_order (Err refusal) p none same t =
+      let q : ordered s ≡ refused (book_cause refusal) (book_value refusal) = map_refused header_of (ordered s) p.verdict in
+      record { tells = rw q t; levels = rw q same }
 
 -- an answer tells one number
 one_told : (x : Result Bool) {cause one two three : ℕ} → Tells (map_result bit x) cause one two three → Tells (map_result bit x) cause one 0 0
