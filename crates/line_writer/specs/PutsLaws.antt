@@ -1,8 +1,9 @@
 -- Texts put one after another are their concatenation.
-use Rattle.std.specs.Prelude.{List, [], ◌++◌, ◌≡◌, refl, ℕ, ◌+◌, ◌≤◌}
-use Rattle.std.proofs.Common.{append_assoc, ap₂, ◌∙◌, subst, arith, take-append-drop, length-drop, drop_at, drop-drop}
+use Rattle.std.specs.Prelude.{List, [], ◌∷◌, ◌++◌, ◌≡◌, refl, ℕ, suc, ◌+◌, ◌<◌, ◌≤◌, get_or, set}
+use Rattle.std.proofs.Common.{append_assoc, ap₂, ◌∙◌, subst, arith, take-append-drop, length-drop, take_all, take-suc, drop_at, drop-drop}
 use Rattle.std.proofs.Math.Path.{sym, ap}
 use Rattle.std.proofs.Math.ListN.{length, take, drop, length-append}
+use Rattle.std.proofs.lemmas.List.{set_split}
 use Rattle.std.proofs.Math.Seq.{length-take-le, take_at}
 use Rattle.io.specs.Counts.{IsPrefixLen}
 use Rattle.line_writer.specs.Puts.{Puts}
@@ -65,11 +66,28 @@ puts_then {out} {x} {y} {out₁} {out₂} {at} {middle} {end} p q =
       fits = rw (← puts-length p) q.fits;
     }
 
--- nothing put
+-- nothing put, and a text put byte by byte
 pub puts_none : (out : List ℕ) (at : ℕ) → at ≤ length out → Puts out at [] out (at + 0)
 puts_none out at h =
     let same : at + 0 ≡ at = omega arith in
     record { bytes = rw same (sym (take-append-drop at out)); ends = refl; fits = omega arith }
+
+puts_byte : (out : List ℕ) (at b : ℕ) → at < length out → Puts out at (b ∷ []) (set out at b) (at + 1)
+puts_byte out at b h =
+    let one : suc at ≡ at + 1 = omega arith in
+    record { bytes = set_split out at b h ∙ ap (λ (k : ℕ). take at out ++ (b ∷ drop k out)) one; ends = refl; fits = omega arith }
+
+pub puts-next : {out : List ℕ} (text : List ℕ) {out₁ : List ℕ} {at : ℕ} (i : ℕ) → at + length text ≤ length out → i < length text → Puts out at (take i text) out₁ (at + i)
+    → Puts out at (take (i + 1) text) (set out₁ (at + i) (get_or text i 0)) (at + (i + 1))
+puts-next {out} text {out₁} {at} i long h p =
+    let inside : at + i < length out₁ = rw (puts-length p) (omega (arith, long, h)) in
+    let one : i + 1 ≡ suc i = omega arith in
+    let end : at + i + 1 ≡ at + (i + 1) = omega arith in
+    rw (one, take-suc text i 0 h, ← one, ← end)
+    (puts_then p (puts_byte out₁ (at + i) (get_or text i 0) inside))
+
+pub puts-all : {out : List ℕ} (text : List ℕ) {out₁ : List ℕ} {at : ℕ} (i : ℕ) → length text ≤ i → Puts out at (take i text) out₁ (at + i) → Puts out at text out₁ (at + i)
+puts-all text i h p = rw (take_all i text h) at p
 
 -- the same text under another name
 pub puts_as : {out x y out' : List ℕ} {at end : ℕ} → Puts out at x out' end → x ≡ y → Puts out at y out' end

@@ -1,19 +1,19 @@
 -- How the parts of a line, and lines one after another, give what the lines of the program say.
-use Rattle.std.specs.Prelude.{List, [], ◌∷◌, ◌++◌, ◌≡◌, refl, ℕ, zero, suc, ◌+◌, ◌^◌, ◌<◌, ◌≤◌, length, get_or, take}
-use Rattle.std.proofs.Common.{append_assoc, append-nil, sym, ap, ◌∙◌, arith, take-suc, length-take-le}
+use Rattle.std.specs.Prelude.{false, List, [], ◌∷◌, ◌++◌, ◌≡◌, refl, ℕ, zero, suc, ◌+◌, ◌^◌, ◌<◌, ◌≤◌, length, get_or, take}
+use Rattle.std.proofs.Common.{true≢false, append_assoc, append-nil, sym, ap, ◌∙◌, arith, take-suc, take_all, length-take-le}
 use Rattle.base.specs.Result.Result.{refused}
 use Rattle.io.specs.Counts.{IsPrefixLen}
 use Rattle.io.specs.Digits.{last_digits, IsDigitCount}
 use Rattle.query_causes.specs.Input.{Whole, Broken}
 use Rattle.query_answerer.specs.Batch.{told}
-use Rattle.transcript_lines.specs.Lines.{decimal, space, end_line, refused_word, cut_word, answer_line}
+use Rattle.transcript_lines.specs.Lines.{decimal, space, end_line, yes_word, no_word, refused_word, cut_word, answer_line}
 use Rattle.transcript_lines.specs.LinesLaws.{decimal_digits}
 use Rattle.transcript_lines.specs.TranscriptLaws.{next-nothing, next-part}
 use Rattle.transcript_lines.specs.Block.{ending}
 use Rattle.transcript_lines.specs.BlockLaws.{next_here}
 use Rattle.line_writer.specs.Puts.{Puts, PutsNumber, PutsPair}
 use Rattle.line_writer.specs.PutsLaws.{puts_none, puts_then, puts_as, puts-length}
-use Rattle.line_writer.specs.Said.{answer_lines, PutsAnswer, LinesPut}
+use Rattle.line_writer.specs.Said.{answer_lines, PutsAnswer, Room, HasRoom, WritesLines, LinesPut}
 
 -- the digits of a number, and a word after them
 pub number_digits : (n k : ℕ) (ds : List ℕ) → IsPrefixLen k ds × (IsDigitCount 10 1 n k × (take k ds ≡ last_digits 10 k n)) → n < 2 ^ 64
@@ -46,10 +46,20 @@ told-refused (suc zero) e f = absurd (f refl)
 told-refused (suc (suc b)) e f = refl
 
 module _ {out out₁ : List ℕ} {at k middle : ℕ} (b : ℕ) where
+  pub puts-no : b ≡ 0 → PutsNumber out at k no_word out₁ middle → PutsAnswer out at k b out₁ middle
+  puts-no e p = record { puts = rw (ap told e) p.puts; short = omega (arith, p.short) }
+
+  pub puts-yes : b ≡ 1 → PutsNumber out at k yes_word out₁ middle → PutsAnswer out at k b out₁ middle
+  puts-yes e p = record { puts = rw (ap told e) p.puts; short = omega (arith, p.short) }
+
   pub puts-refused : {out₂ : List ℕ} {end : ℕ} → (b ≡ 0 → ⊥) → (b ≡ 1 → ⊥) → PutsNumber out at k refused_word out₁ middle
       → PutsNumber out₁ middle b end_line out₂ end → PutsAnswer out at k b out₂ end
   puts-refused e f p q =
       record { puts = rw (told-refused b e f) (puts_as (puts_then p.puts q.puts) (simp append_assoc)); short = omega (arith, p.short, q.short) }
+
+-- there is no room
+pub no_room : {size at k count : ℕ} → (Room size at k count → ⊥) → HasRoom size at k count false
+no_room h = record { some = λ e. absurd (true≢false (sym e)); none = λ e. h }
 
 -- one more line
 lines_more : (k : ℕ) (bytes : List ℕ) (byte : ℕ) → answer_lines k (bytes ++ (byte ∷ [])) ≡ answer_lines k bytes ++ answer_line (k + length bytes) (told byte)
@@ -69,6 +79,11 @@ lines_next k bytes i l =
     sym (rw (one, take-suc bytes i 0 l) (rw size at (lines_more k (take i bytes) (get_or bytes i 0))))
 
 module _ {out bytes : List ℕ} {at k : ℕ} where
+  pub lines_none : Room (length out) at k (length bytes) → LinesPut out at k bytes 0 out at
+  lines_none h =
+      let same : at + 0 ≡ at = omega arith in
+      record { room = h; within = omega arith; short = omega arith; same = refl; puts = rw same at (puts_none out at (omega (arith, h.0))) }
+
   pub lines-one : {out₁ out₂ : List ℕ} {i middle end : ℕ} → LinesPut out at k bytes i out₁ middle → i < length bytes
       → PutsAnswer out₁ middle (k + i) (get_or bytes i 0) out₂ end → LinesPut out at k bytes (i + 1) out₂ end
   lines-one {i = i} p h q =
@@ -79,6 +94,13 @@ module _ {out bytes : List ℕ} {at k : ℕ} where
         same = puts-length q.puts ∙ p.same;
         puts = puts_as (puts_then p.puts q.puts) (lines_next k bytes i h);
       }
+
+  pub lines-all : {out₁ : List ℕ} {i end : ℕ} → LinesPut out at k bytes i out₁ end → length bytes ≤ i → WritesLines out at k bytes out₁ end
+  lines-all {i = i} p h =
+      record { puts = λ r. puts_as p.puts (ap (answer_lines k) (take_all i bytes h)); none = λ r. absurd (r p.room) }
+
+  pub no_lines : (Room (length out) at k (length bytes) → ⊥) → WritesLines out at k bytes out at
+  no_lines h = record { puts = λ r. absurd (h r); none = λ r. (refl, refl) }
 
 -- the last line by what stands at the front of the input: nothing, a whole question, or a part of one
 module _ {out : List ℕ} (k : ℕ) (q : List ℕ) where
