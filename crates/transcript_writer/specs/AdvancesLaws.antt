@@ -1,11 +1,14 @@
 -- How the answers of batches, one after another, and stopping give what a block promises.
-use Rattle.std.specs.Prelude.{Bool, true, false, List, [], ◌++◌, ◌⊎◌, ◌≡◌, refl, ℕ, suc, ◌+◌, ◌-◌, ◌*◌, ◌<◌, ◌≤◌, eqb, length, get_or, take, drop}
-use Rattle.std.proofs.Common.{append_assoc, append-nil, inl, inr, ◌∙◌, arith, eqb-true, length-append, length-drop, drop-drop, take_all, length-take-le}
+use Rattle.std.specs.Prelude.{Bool, true, false, List, [], ◌++◌, ◌⊎◌, ◌≡◌, refl, ℕ, suc, ◌+◌, ◌-◌, ◌*◌, ◌/◌, ◌<◌, ◌≤◌, eqb, length, get_or, take, drop}
+use Rattle.std.proofs.Common.{true≢false, append_assoc, append-nil, inl, inr, sym, ap, ◌∙◌, arith, eqb-true, length-append, length-drop, drop-drop, take_all, length-take-le}
 use Rattle.std.proofs.lemmas.Bool.{eqb-false}
+use Rattle.std.proofs.Math.Seq.{slice}
 use Rattle.std.proofs.lemmas.List.{take-append-le}
+use Rattle.io.specs.Counts.{IsPrefixLen}
 use Rattle.base.specs.Result.{Result}
+use Rattle.byte_parts.specs.Least.{Least}
 use Rattle.roles.specs.Role.{Chain}
-use Rattle.query_causes.specs.Input.{links_of, Broken}
+use Rattle.query_causes.specs.Input.{links_of, Broken, is_whole}
 use Rattle.transcript_lines.specs.Lines.{answer_line}
 use Rattle.transcript_lines.specs.LinesLaws.{line_short}
 use Rattle.transcript_lines.specs.Block.{Stopped, Block}
@@ -16,10 +19,57 @@ use Rattle.query_answerer.specs.Batch.{told, Batched, Batches}
 use Rattle.query_answerer.specs.Batch.Batched.{none, more}
 use Rattle.query_answerer.specs.declared.batch.Batch.{Batch}
 use Rattle.line_writer.specs.Puts.{Puts}
-use Rattle.line_writer.specs.PutsLaws.{puts_then, puts-length}
+use Rattle.line_writer.specs.PutsLaws.{puts_none, puts_then, puts-front, puts-length}
 use Rattle.line_writer.specs.Said.{answer_lines, WritesLines}
 use Rattle.transcript_writer.specs.declared.block.Reached.{Reached}
-use Rattle.transcript_writer.specs.Advances.{Advances, Advanced, LinesIn}
+use Rattle.transcript_writer.specs.Advances.{AnswersBlock, Advances, Advanced, LinesIn}
+
+-- the lesser of two numbers, or three times it, as how many of a list to take
+take_past : (s : List ℕ) (m n : ℕ) → (m ≡ n) ⊎ (length s ≤ m) → m ≤ n → take m s ≡ take n s
+take_past s m n (inl e) l = ap (λ (k : ℕ). take k s) e
+take_past s m n (inr h) l = take_all m s h ∙ sym (take_all n s (omega arith))
+
+module _ {a b r : ℕ} (l : Least a b r) (s : List ℕ) where
+  pub least-counts : length s ≡ b → IsPrefixLen r s
+  least-counts e = let within : r ≤ length s = omega (arith, l.right, e) in (within, sym (length-take-le r s within))
+
+  pub triples_count : length s ≡ 3 * b → IsPrefixLen (3 * r) s
+  triples_count e = let within : 3 * r ≤ length s = omega (arith, l.right, e) in (within, sym (length-take-le (3 * r) s within))
+
+  pub take-least : length s ≡ b → take r s ≡ take a s
+  take-least e = take_past s r a (by-either l.either) l.left
+    where
+      by-either : (r ≡ a) ⊎ (r ≡ b) → (r ≡ a) ⊎ (length s ≤ r)
+      by-either (inl f) = inl f
+      by-either (inr f) = inr (omega (arith, e, f))
+
+  pub take_triples : length s ≡ 3 * b → take (3 * r) s ≡ take (3 * a) s
+  take_triples e = take_past s (3 * r) (3 * a) (by-either l.either) (omega (arith, l.left))
+    where
+      by-either : (r ≡ a) ⊎ (r ≡ b) → (3 * r ≡ 3 * a) ⊎ (length s ≤ 3 * r)
+      by-either (inl f) = inl (omega (arith, f))
+      by-either (inr f) = inr (omega (arith, e, f))
+
+-- how many lines there are room and numbers for
+pub lines_in : {more : Bool} {room k lines count : ℕ} → more ≡ true → Least (room / 64) 1024 lines → Least lines (18446744073709551615 - k) count
+    → k ≤ 18446744073709551615 → LinesIn more room k count
+lines_in {more} {room} {k} {lines} {count} t l m h =
+    record {
+      few = omega (arith, l.right, m.left);
+      fits = omega (arith, l.left, m.left);
+      numbers = omega (arith, m.right);
+      ends = λ e. absurd (true≢false (sym t ∙ e));
+      none = λ e. inr (by-either e l.either m.either);
+    }
+  where
+    by-either : count ≡ 0 → (lines ≡ room / 64) ⊎ (lines ≡ 1024) → (count ≡ lines) ⊎ (count ≡ 18446744073709551615 - k)
+        → (room < 64) ⊎ (18446744073709551615 ≤ k)
+    by-either e f (inr g) = inr (omega (arith, e, g))
+    by-either e (inl f) (inl g) = inl (omega (arith, e, f, g))
+    by-either e (inr f) (inl g) = inl (omega (arith, e, f, g))
+
+pub no-lines_in : {more : Bool} {room k : ℕ} → more ≡ false → k ≤ 18446744073709551615 → LinesIn more room k 0
+no-lines_in e l = record { few = omega arith; fits = omega arith; numbers = omega arith; ends = λ f. refl; none = λ z. inl e }
 
 stops-by : {more : Bool} {q : List ℕ} {room k : ℕ} → (more ≡ false) ⊎ ((room < 64) ⊎ (18446744073709551615 ≤ k)) → (more ≡ false → Broken q) → Stopped k q room
 stops-by (inl e) broken = no_question (broken e)
@@ -55,6 +105,22 @@ module _ (Says : ℕ → Chain → Result Bool → Type 0) where
       (omega (arith, short, fits)) (omega (arith, few)) (rw (sum, left, ← drop-drop n (3 + links_of s) s) at t) in
       rw (append_assoc (answer_line k (told byte)) (answer_lines (suc k) bytes) lines)
       (answered {k = k} {room = room} (next_here s w) (omega (arith, fits)) (omega (arith, few)) a ih)
+
+-- nothing is read yet
+pub advanced_none : {Says : ℕ → Chain → Result Bool → Type 0} {q out : List ℕ} {k most : ℕ} → LinesIn true (length out) k most → Advanced Says k q out k 0 0 most out
+advanced_none {q = q} {out} {k} l =
+    let all : length out - 0 ≡ length out = omega arith in
+    record {
+      lines = [];
+      puts = puts_none out 0 (omega arith);
+      same = refl;
+      within = omega arith;
+      completes = λ lines k'' rest b. rw all at b;
+      few = l.few;
+      room = rw all l.fits;
+      numbers = l.numbers;
+      stops = λ e. rw all (stops-by (l.none e) (λ f. absurd (true≢false f)));
+    }
 
 module _ {Says : ℕ → Chain → Result Bool → Type 0} {q out out' : List ℕ} {k k' read written most : ℕ} (a : Advanced Says k q out k' read written most out') where
   -- no more lines
@@ -148,3 +214,20 @@ module _ {Says : ℕ → Chain → Result Bool → Type 0} {q out out' : List �
 pub advances_as : (Says : (heads moves : List ℕ) → ℕ → Chain → Result Bool → Type 0) {hs ms hs' ms' q out out' : List ℕ} {k : ℕ} {p : Reached} → hs ≡ hs'
     → ms ≡ ms' → Advances (Says hs ms) k q out out' p → Advances (Says hs' ms') k q out out' p
 advances_as Says e f a = rw (← e, ← f) a
+
+-- what is left of a block is moved to the front of the input
+module _ (q : List ℕ) {Says : ℕ → Chain → Result Bool → Type 0} {out out' : List ℕ} {k end size : ℕ} {p : Reached} (front : Least end (length q) size) (a : Advances Says k (take size q) out out' p) where
+  pub read-within : p.read ≤ size
+  read-within = omega (arith, a.within, length-take-le size q front.right)
+
+  pub answers-kept : {q' : List ℕ} {kept : ℕ} {left : Bool} → Puts q 0 (slice p.read size q) q' kept → left ≡ is_whole (take kept q')
+      → AnswersBlock Says k q end out q' out' (record { number = p.number; kept = kept; written = p.written; left = left })
+  answers-kept {q'} {kept} keeps e =
+      record {
+        lines = a.lines;
+        rest = slice p.read size q;
+        block = rw (← take-least front q refl) a.block;
+        puts = a.puts;
+        keeps = keeps;
+        left = e ∙ ap is_whole (puts-front keeps);
+      }

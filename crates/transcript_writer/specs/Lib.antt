@@ -2,4 +2,5 @@ pub mod Opened
 pub mod OpenedLaws
 pub mod Advances
 pub mod AdvancesLaws
+pub mod KeptLaws
 pub mod SessionLaws
