@@ -63,6 +63,10 @@ opened s h m h' m' line line' size {r = r} heads moves p e puts =
       transitions = ap (λ (x : Report). x.transitions) f ∙ transitions-reported t;
     }
 
+-- what a report says of each outcome
+pub reported_as : (o v : Outcome Counts BuildRefusal) {r : Report} → o ≡ v → r ≡ reported (says v) → r ≡ reported (says o)
+reported_as o v e f = f ∙ ap (λ (x : Outcome Counts BuildRefusal). reported (says x)) (sym e)
+
 -- the numbers that count are the tables of the book
 module _ {s h m line line' : List ℕ} {r : Opening} (o : Opens s h m line line' r) (b : Book) (e : built s 64 15360 ≡ ok b) where
   pub opened-heads : heads_in r.tables ≡ heads_of b
