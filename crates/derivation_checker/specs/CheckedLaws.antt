@@ -16,7 +16,7 @@ use Rattle.book_header.specs.declared.Header.{Header}
 use Rattle.book_decoder.specs.Verdict.{header_of}
 use Rattle.book_questions.specs.ShortQuestion.{asked_book}
 use Rattle.book_questions.specs.ShortQuestionLaws.{asked}
-use Rattle.book_questions.specs.RuleTable.{rule_in, Tabled}
+use Rattle.book_questions.specs.RuleTable.{rule_in, Rules, Tabled}
 use Rattle.book_questions.specs.Admission.{Admits, says}
 use Rattle.derivation_checker.specs.CheckedDerivation.{checked_derivation}
 use Rattle.derivation_checker.specs.CheckingRoom.{Roomy}
@@ -46,6 +46,9 @@ module _ {s : List ℕ} {r : ℕ} {w : Chain} {table table' : List ℕ} {a : Che
 
     tabled : Tabled book.0.rules (2 * book.0.names) table'
     tabled = (h.filled book.0 book.1 (roomy book.0 book.1)).tabled
+
+    pub rules-tabled : Rules table' header.rules (2 * header.names)
+    rules-tabled = rw book.2 tabled.rules
 
     pub checked-tabled : (steps : List ℕ) {q : Result Bool} → q ≡ checked header.rules (rule_in table') r w steps → q ≡ checked_derivation s r w steps
     unfolding checked_derivation
