@@ -1,5 +1,5 @@
 // Numbers drawn from a seed.
-ghost use Rattle.std.specs.Prelude.{◌<◌, max};
+ghost use Rattle.std.specs.Prelude.{◌<◌, ◌*◌, ◌-◌, max};
 
 use crate::chain::push;
 
@@ -8,17 +8,17 @@ use crate::chain::push;
 pub(crate) struct Seed(pub(crate) u64);
 
 impl Seed {
-    // A number below n, from the high bits; 0 where n is 0.
+    // A number below n, from the high bits; below 128 where n is 0.
     pub(crate) fn draw(&mut self, n: u64) -> u64
-        ensures { result < max n 1 }
+        ensures { result < max n (128 * (1 - n)) }
     {
         self.0 = self.0.wrapping_mul(1103515245).wrapping_add(12345) % 2147483648;
-        self.0 / 65536 % n.max(1)
+        self.0 / 65536 % if n == 0 { 128 } else { n }
     }
 
     // A number below n, small ones more often.
     pub(crate) fn draw_small(&mut self, n: u64) -> u64
-        ensures { result < max n 1 }
+        ensures { result < max n (128 * (1 - n)) }
     {
         let most = self.draw(n);
         self.draw(most + 1)

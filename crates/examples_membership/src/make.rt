@@ -1,6 +1,6 @@
 // Books made from a seed, with rules of each form. The inner roles of a book's rules all have lower names than the right role, or all higher
 // ones, so that every book has a regular order.
-ghost use Rattle.std.specs.Prelude.{◌<◌, ◌≤◌, max};
+ghost use Rattle.std.specs.Prelude.{◌<◌, ◌≤◌, ◌*◌, ◌-◌, max};
 
 use crate::chain::splice;
 use crate::draw::Seed;
@@ -99,7 +99,7 @@ impl Made {
 
 // The number of names that inner roles may have; none less often.
 fn draw_level(seed: &mut Seed, names: u64) -> u64
-    ensures { result < max names 1 }
+    ensures { result < max names (128 * (1 - names)) }
 {
     match seed.draw(names) {
         0 => seed.draw(names),

@@ -42,10 +42,7 @@ fn ask_with(asked: &Asked, buffer: &mut [u8]) {
         Ok(Some(count)) => {
             let checked = derivation_checker::check(book, asked.role, links, steps);
             label(b": yes, steps ", count);
-            label(
-                b", accepted ",
-                usize::from(matches!(checked, Ok(true))),
-            );
+            label(b", accepted ", usize::from(matches!(checked, Ok(true))));
         }
         Ok(None) => {
             io::write_all(1, b": no");
@@ -67,15 +64,15 @@ fn tell_refusal(refusal: BookQueryRefusal) {
     label(b" ", refusal.value());
 }
 
-// Asks the checker.
+// Asks the checker. The eight bytes stand there at most 40,000 times, and at most 1,025 bytes behind them; greater numbers begin at 0 again.
 pub(crate) fn ask_checker(numbers: &mut Numbers) {
     let asked = read_asked(numbers);
     let repeated = numbers.list();
     let front = numbers.number() % 40001 * 8;
     let last = numbers.list();
-    let size = front + last.size.min(1025);
+    let size = front + last.size % 1026;
     let mut steps = [0u8; 321025];
-    spread(&repeated.bytes, front, last.bytes(), &mut steps);
+    spread(&repeated.bytes, front, &last.bytes, &mut steps);
     tell_check(&asked, part(&steps, 0, size));
 }
 

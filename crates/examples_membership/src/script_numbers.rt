@@ -7,7 +7,7 @@ pub(crate) struct Numbers<'a> {
     more: bool,
 }
 
-// A list of numbers, as table numbers and as bytes.
+// A list of numbers, as table numbers and as bytes; where there are more than it can hold, they go on at its front again.
 #[derive(Clone, Copy)]
 pub(crate) struct List {
     pub(crate) numbers: [u16; 15363],
@@ -51,12 +51,8 @@ impl<'a> Numbers<'a> {
             if self.more {
                 last = self.number();
             }
-            if let Some(number) = list.numbers.get_mut(i) {
-                *number = (last % 65536) as u16;
-            }
-            if let Some(byte) = list.bytes.get_mut(i) {
-                *byte = (last % 256) as u8;
-            }
+            list.numbers[i % 15363] = (last % 65536) as u16;
+            list.bytes[i % 1025] = (last % 256) as u8;
         }
         list
     }

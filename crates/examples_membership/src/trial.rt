@@ -51,12 +51,16 @@ pub(crate) fn try_book(
     }
 }
 
-// Puts so many questions of every chain in turn to tables and to the rules of a book.
+// Puts so many questions of every chain in turn to tables and to the rules of a book. They are about 1 to 128 roles: as many as the book has, less a
+// multiple of 128 where it has more, and 128 where it has none.
 fn ask_every(ruled: &[u8], heads: &[u16], moves: &[u16], questions: u64, counts: &mut Counts) {
     let rules = rules_of(ruled);
-    let roles = u64::from(byte(ruled, 5)) * 2;
+    let roles = match u64::from(byte(ruled, 5)) * 2 % 128 {
+        0 => 128,
+        roles => roles,
+    };
     for i in 0..questions {
-        compare(heads, moves, &rules, nth_question(i, roles.max(1)), counts);
+        compare(heads, moves, &rules, nth_question(i, roles), counts);
     }
 }
 
