@@ -16,8 +16,10 @@ struct Left {
 pub(crate) fn try_blocks(book: &[u8], questions: &[u8], border: usize, size: usize) {
     let mut line = [0u8; 72];
     let opening = transcript_writer::open(book, &mut line);
-    let tables = opening.tables;
     io::write_all(STDOUT, part(&line, 0, opening.written));
+    let Some(tables) = opening.tables else {
+        return;
+    };
     let none = Left {
         bytes: [0u8; 64],
         size: 0,

@@ -29,14 +29,11 @@ pub fn open(book: &[u8], line: &mut [u8; 72]) -> Opening
     let mut moves = [0u16; 15360];
     let built = build(book, &mut heads, &mut moves);
     let written = first_line(built, line);
-    let tables = match built {
-        Ok(counts) => Some(Tables {
-            heads,
-            moves,
-            names: counts.names,
-            transitions: counts.transitions,
-        }),
-        Err(_) => None,
-    };
+    let tables = built.ok().map(|counts| Tables {
+        heads,
+        moves,
+        names: counts.names,
+        transitions: counts.transitions,
+    });
     Opening { written, tables }
 }

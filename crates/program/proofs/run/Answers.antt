@@ -1,5 +1,4 @@
 -- Each way to stop is one that the opening or the blocks promise.
-use Rattle.std.proofs.Common.{rules}
 use Rattle.program.specs.Ran.Ran.{unwritten}
 use Rattle.program.specs.RanLaws.{ran_refused, ran_served}
 use Rattle.program.proofs.run.Goals as goal
