@@ -1,8 +1,7 @@
 // Writes a book into lent bytes: its rules one after another from byte 8 on, and the eight bytes in front of them last, when the rules are counted.
 #![tactic(auto)]
 
-ghost use Rattle.std.specs.Prelude.{◌≡◌, ◌+◌, ◌≤◌, length};
-ghost use Rattle.std.proofs.lemmas.List.Edits.{sets};
+ghost use Rattle.std.specs.Prelude.{◌≡◌};
 ghost use Rattle.book_writer.specs.BookStores.{RulePut, put_header};
 
 // Puts a rule at a place and gives the place after it. Where there is no room, or the length is over 255, nothing is written and the place comes back.
@@ -10,19 +9,14 @@ pub fn put_rule(book: &mut [u8], at: usize, right: u8, left: &[u8]) -> usize
     ensures { RulePut book.old at (record { left = left.entry.now; right = right }) book.new result }
 {
     let size = left.len();
-    if 255 < size {
+    if 255 < size || book.len() < size + 2 || book.len() - (size + 2) < at {
         return at;
     }
-    if book.len() < size + 2 {
-        return at;
-    }
-    if book.len() - (size + 2) < at {
-        return at;
-    }
+    let end = at + 2 + size;
     book[at] = right;
     book[at + 1] = size as u8;
-    copy(book, at + 2, left);
-    at + 2 + size
+    book[at + 2..end].copy_from_slice(left);
+    end
 }
 
 // Puts the mark, version 1, the names and the rule count into the first eight bytes. Where there are fewer, nothing is written.
@@ -42,17 +36,5 @@ pub fn put_header(book: &mut [u8], names: u8, rules: u16)
         (rules % 256) as u8,
         (rules / 256) as u8,
     ];
-    copy(book, 0, &header);
-}
-
-// Copies a part to a place.
-fn copy(book: &mut [u8], at: usize, part: &[u8])
-    requires { at + length part.now ≤ length book.old }
-    ensures { book.new ≡ sets book.old at part.now }
-{
-    let mut i = 0;
-    while i < part.len() {
-        book[at + i] = part[i];
-        i += 1;
-    }
+    book[..8].copy_from_slice(&header);
 }

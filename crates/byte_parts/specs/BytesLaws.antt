@@ -1,14 +1,11 @@
--- Laws of parts of some bytes, of the bytes before a wanted one, and of copies.
+-- Laws of parts of some bytes and of the bytes before a wanted one.
 use Rattle.std.proofs.Math.Bool.{and-false}
-use Rattle.std.specs.Prelude.{List, [], ◌∷◌, ◌++◌, ◌⊎◌, ◌≡◌, ℕ, zero, suc, ◌+◌, ◌-◌, ◌<◌, ◌≤◌, leb, length, get_or, set, take, drop}
-use Rattle.std.proofs.Common.{inl, inr, sym, ap, ◌∙◌, arith, add-one, length-append, length-drop, drop_of_length-le, take-suc, take_all, take-take, length-take-le}
+use Rattle.std.specs.Prelude.{List, [], ◌∷◌, ◌≡◌, ℕ, zero, suc, ◌+◌, ◌-◌, ◌<◌, ◌≤◌, leb, length, get_or, take, drop}
+use Rattle.std.proofs.Common.{sym, arith, add-one, drop_of_length-le, take_all}
 use Rattle.std.proofs.Math.Path.{refl}
 use borrow.Author.Tests.{le-leb, lt-leb, eq-eqb, ne_eqb}
-use Rattle.std.proofs.Math.Seq.{slice, drop-cons, append_snoc, take-length}
-use Rattle.std.proofs.lemmas.List.{set_at}
-use Rattle.base.specs.Writing.{over}
-use Rattle.byte_parts.specs.Bytes.{between, ahead, copied}
-use Rattle.byte_parts.specs.Least.{Least}
+use Rattle.std.proofs.Math.Seq.{slice, drop-cons}
+use Rattle.byte_parts.specs.Bytes.{between, ahead}
 
 -- a part as its end is cut off first, or its front
 slice_taken : (from end : ℕ) (s : List ℕ) → slice from end s ≡ take (end - from) (drop from s)
@@ -39,28 +36,3 @@ module _ (wanted : ℕ) (s : List ℕ) (i : ℕ) where
   pub ahead-next : i < length s → (get_or s i 0 ≡ wanted → ⊥) → i + ahead wanted (drop i s) ≡ i + 1 + ahead wanted (drop (i + 1) s)
   unfolding ahead
   ahead-next h e = rw (add-one i, drop-cons s i 0 h, ne_eqb (get_or s i 0) wanted e) (omega arith)
-
--- a copy of i bytes, one more, and of all that both sides have
-module _ (from to : List ℕ) where
-  pub copy_length : (i : ℕ) → i ≤ length from → i ≤ length to → length (take i from ++ drop i to) ≡ length to
-  copy_length i p q = rw (length-append (take i from) (drop i to), length-drop i to, length-take-le i from p) (omega arith)
-
-  pub copy_next : (i : ℕ) → i < length from → i < length to → set (take i from ++ drop i to) i (get_or from i 0) ≡ take (i + 1) from ++ drop (i + 1) to
-  copy_next i p q =
-      rw (drop-cons to i 0 q, add-one i, take-suc from i 0 p)
-      (set_at (take i from) (get_or to i 0) (drop (suc i) to) (get_or from i 0) i (length-take-le i from (omega arith))
-      ∙ sym (append_snoc (take i from) (get_or from i 0) (drop (suc i) to)))
-
-  pub copy_end : {count most end : ℕ} → Least count (length from) most → Least most (length to) end → take end from ++ drop end to ≡ copied from count to
-  copy_end {count} {most} {end} l m =
-      ap (λ (k : ℕ). take end from ++ drop k to) (sym (length-take-le end from (omega (arith, l.right, m.left))))
-      ∙ ap (λ (r : List ℕ). over r to) (by-either l.either m.either)
-    where
-      by-either : (most ≡ count) ⊎ (most ≡ length from) → (end ≡ most) ⊎ (end ≡ length to) → take end from ≡ take (length to) (take count from)
-      by-either e (inr f) = rw f (sym (take-take (length to) count from (omega (arith, l.left, m.left))))
-      by-either (inl e) (inl f) =
-          let g : end ≡ count = f ∙ e in
-          rw g (sym (take_all (length to) (take count from) (rw (length-take-le count from (omega (arith, l.right))) (omega (arith, m.right)))))
-      by-either (inr e) (inl f) =
-          let g : end ≡ length from = f ∙ e in
-          rw (g, take_all count from (omega (arith, l.left)), take-length from) (sym (take_all (length to) from (omega (arith, m.right))))

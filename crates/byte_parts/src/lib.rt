@@ -9,57 +9,39 @@ ghost use Rattle.byte_parts.specs.Least.{Least};
 pub fn byte(bytes: &[u8], at: usize) -> u8
     ensures { result ≡ get_or bytes.now at 0 }
 {
-    if at < bytes.len() {
-        return bytes[at];
-    }
-    0
+    bytes.get(at).copied().unwrap_or(0)
 }
 
 // The bytes from a place to an end; none where there are no such places.
 pub fn part(bytes: &[u8], from: usize, end: usize) -> &[u8]
     ensures { result.now ≡ between from end bytes.now }
 {
-    if bytes.len() < end {
-        return &bytes[..0];
-    }
-    if end < from {
-        return &bytes[..0];
-    }
-    &bytes[from..end]
+    bytes.get(from..end).unwrap_or(&[])
 }
 
 // The first place of a byte from a place on; where it does not stand there, the end of the bytes, or the place itself if that is past the end.
 pub fn find(bytes: &[u8], from: usize, wanted: u8) -> usize
     ensures { result ≡ from + ahead wanted (drop from bytes.now) }
 {
-    let mut i = from;
-    while i < bytes.len() {
+    for i in from..bytes.len() {
         if bytes[i] == wanted {
             return i;
         }
-        i += 1;
     }
-    i
+    from.max(bytes.len())
 }
 
 // The lesser of two numbers.
 pub fn least(a: usize, b: usize) -> usize
     ensures { Least a b result }
 {
-    if a < b {
-        return a;
-    }
-    b
+    a.min(b)
 }
 
 // Copies the first `count` bytes over the front of others, as far as both go; the bytes after them stay.
 pub fn copy(from: &[u8], count: usize, to: &mut [u8])
     ensures { to.new ≡ copied from.now count to.old }
 {
-    let end = least(least(count, from.len()), to.len());
-    let mut i = 0;
-    while i < end {
-        to[i] = from[i];
-        i += 1;
-    }
+    let end = count.min(from.len()).min(to.len());
+    to[..end].copy_from_slice(&from[..end]);
 }

@@ -1,12 +1,15 @@
 -- What a call returns and stores: the number of the cause or 0, and counts or an answer, or the value beside the cause.
 use Rattle.std.specs.Prelude.{Bool, true, false, ◌≡◌, ℕ}
-use Rattle.base.specs.Result.{Result}
+use Rattle.std.specs.Prelude.{Option, Some, None}
+use Rattle.std.specs.Prelude.{Result as Answer}
+use Rattle.base.specs.Result.{Result, map_result}
 use Rattle.base.specs.Result.Result.{refused, ok}
 use Rattle.book_header.specs.declared.Header.{Header}
 use Rattle.table_limits.specs.declared.Counts.{Counts}
 use Rattle.refusals.specs.BookQueryRefusals.{book_query_cause, book_query_value}
-use Rattle.derivation_writer.specs.declared.Derivation.{Derivation}
-use Rattle.derivation_writer.specs.declared.Derivation.TheVariants.{Steps, None, Refused}
+use Rattle.refusals.specs.declared.book_query.BookQueryRefusal.{BookQueryRefusal}
+use Rattle.refusals.specs.Said.{said}
+use Rattle.order_checker.specs.declared.Ordering.{Ordering}
 
 -- three numbers told
 pub record Numbers : Type 0 where
@@ -41,6 +44,9 @@ pub record Tells (r : Result Numbers) (cause first second third : ℕ) : Type 0 
 abbrev pub header_counts : ℕ → Header → Numbers
 header_counts depth h = record { one = h.names; two = h.rules; three = depth }
 
+abbrev pub order_counts : Ordering → Numbers
+order_counts o = header_counts o.depth o.header
+
 -- how many states and transitions, and the depth
 abbrev pub built_counts : Counts → Numbers
 built_counts k = record { one = k.states; two = k.transitions; three = k.depth }
@@ -51,7 +57,9 @@ bit true = record { one = 1; two = 0; three = 0 }
 bit false = record { one = 0; two = 0; three = 0 }
 
 -- a derivation that is written is 1 with its steps; none is 0
-abbrev pub derivation_numbers : Derivation → Result Numbers
-derivation_numbers (Steps count) = ok (record { one = 1; two = count; three = 0 })
-derivation_numbers None = ok (record { one = 0; two = 0; three = 0 })
-derivation_numbers (Refused refusal) = refused (book_query_cause refusal) (book_query_value refusal)
+abbrev pub steps_numbers : Option ℕ → Numbers
+steps_numbers (Some count) = record { one = 1; two = count; three = 0 }
+steps_numbers None = record { one = 0; two = 0; three = 0 }
+
+abbrev pub derivation_numbers : Answer (Option ℕ) BookQueryRefusal → Result Numbers
+derivation_numbers d = map_result steps_numbers (said book_query_cause book_query_value d)

@@ -54,9 +54,6 @@ module _ {table : List ℕ} {count : ℕ} {links : List ℕ} {size : ℕ} (ready
     pub left-some : 1 ≤ links_left
     left-some = ready.rules.some t.number t.side listed side
 
-    pub left-most : links_left ≤ 8
-    left-most = ready.rules.most t.number t.side listed side
-
     pub no_room : 17 < size + links_left → Result links None
     no_room h = none (λ p. absurd (omega (arith, p.short, long, left-size)))
 

@@ -1,13 +1,13 @@
 -- Steps followed one by one on a chain in place: what holds before step k, and that a step which is taken keeps it.
-use Rattle.std.specs.Prelude.{Bool, false, List, ◌∷◌, [], ◌≡◌, ℕ, ◌+◌, ◌/◌, ◌%◌, ◌<◌, ◌≤◌, length, take}
+use Rattle.std.specs.Prelude.{Bool, false, List, ◌≡◌, ℕ, ◌+◌, ◌/◌, ◌%◌, ◌<◌, ◌≤◌, length, take}
 use Rattle.std.proofs.Common.{sym, ◌∙◌, subst, arith}
 use Rattle.base.specs.Result.{Result}
 use Rattle.base.specs.Result.Result.{refused, ok}
 use Rattle.roles.specs.Role.{Chain, same_chain}
 use Rattle.derivation_steps.specs.declared.WrittenStep.{WrittenStep}
 use Rattle.derivation_steps.specs.WrittenSteps.{step_at, possible, checked}
-use Rattle.derivation_steps.specs.RunningLaws.{Running, running-start, running_impossible, running-next, running-end, checked-whole}
-use Rattle.book_questions.specs.RuleTable.{rule_in, Rules}
+use Rattle.derivation_steps.specs.RunningLaws.{Running, running_impossible, running-next, running-end, checked-whole}
+use Rattle.book_questions.specs.RuleTable.{rule_in}
 use Rattle.derivation_checker.specs.Applied.{Ready, Taken}
 
 -- all steps lead where the steps from k on lead from the chain that is the front of the links
@@ -17,17 +17,6 @@ pub record Following (table : List ℕ) (rules role : ℕ) (steps links : List �
   pub even : length steps % 4 ≡ 0
   pub inside : k ≤ length steps / 4
   pub running : Running rules (rule_in table) steps role (length steps / 4) k (take size links)
-
-pub following_start : (table : List ℕ) (rules role : ℕ) (steps links : List ℕ) {roles : ℕ} → Rules table rules roles → length steps % 4 ≡ 0 → length links ≡ 16
-    → take 1 links ≡ role ∷ [] → Following table rules role steps links 1 0
-following_start table rules role steps links {roles} good even room e =
-    record {
-      ready = record { roles = roles; rules = good; room = room; few = omega arith };
-      some = omega arith;
-      even = even;
-      inside = omega arith;
-      running = rw e (running-start rules (rule_in table) steps role (length steps / 4));
-    }
 
 module _ {table : List ℕ} {rules role : ℕ} {steps links : List ℕ} {size k : ℕ} (f : Following table rules role steps links size k) where
   module _ (l : k < length steps / 4) {t : WrittenStep} (e : t ≡ step_at steps k) where

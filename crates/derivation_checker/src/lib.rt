@@ -2,8 +2,6 @@
 #![tactic(auto)]
 
 ghost use Rattle.std.specs.Prelude.{◌≡◌, ◌*◌, length};
-ghost use Rattle.base.specs.Result.Result.{ok};
-ghost use Rattle.roles.specs.Role.{same_chain};
 ghost use Rattle.derivation_steps.specs.WrittenSteps.{checked};
 ghost use Rattle.book_questions.specs.RuleTable.{Rules, rule_in};
 ghost use Rattle.book_questions.specs.Admission.{answers};

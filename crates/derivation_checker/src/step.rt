@@ -1,5 +1,5 @@
 // One step of a written derivation, taken on a chain in place.
-ghost use Rattle.std.specs.Prelude.{◌≡◌, ◌+◌, ◌<◌, ◌≤◌, length, take};
+ghost use Rattle.std.specs.Prelude.{◌+◌, ◌<◌, ◌≤◌, length, take};
 ghost use Rattle.book_questions.specs.RuleTable.{rule_in};
 ghost use Rattle.derivation_checker.specs.Applied.{Inserted, Ready, Applied};
 

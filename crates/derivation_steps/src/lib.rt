@@ -3,6 +3,8 @@
 
 ghost use Rattle.derivation_steps.specs.StepBytes.{Reads, Puts};
 
+use words::word;
+
 // A replacement: at a place of the present chain, by the rule of a number as it stands (side 0) or by its inverse (side 1).
 #[derive(Clone, Copy)]
 pub struct WrittenStep {
@@ -24,7 +26,7 @@ pub fn step_of(steps: &[u8], k: usize) -> WrittenStep
     }
     let at = 4 * k;
     WrittenStep {
-        place: steps[at] as usize + 256 * steps[at + 1] as usize,
+        place: word(steps, at),
         number: steps[at + 2] as usize,
         side: steps[at + 3] as usize,
     }

@@ -1,11 +1,11 @@
 -- Laws of a role giving way to the left side of its rule.
-use Rattle.std.specs.Prelude.{Bool, false, List, [], ◌∷◌, ◌++◌, ◌⊎◌, ◌≡◌, refl, ℕ, suc, ◌+◌, ◌-◌, ◌*◌, ◌/◌, ◌%◌, ◌<◌, ◌≤◌, eqb, length, get_or, take, drop, set}
-use Rattle.std.proofs.lemmas.Bool.{false≢true, eqb-false}
-use Rattle.std.proofs.Common.{append_assoc, inl, inr, sym, ap, ap₂, ◌∙◌, subst, add-one, arith, eqb-true, length-drop, drop_of_length-le, drop-cons, drop_at, take-suc, take_all, length-take-le}
+use Rattle.std.specs.Prelude.{Bool, List, [], ◌∷◌, ◌++◌, ◌⊎◌, ◌≡◌, refl, ℕ, suc, ◌+◌, ◌-◌, ◌*◌, ◌/◌, ◌%◌, ◌<◌, ◌≤◌, length, get_or, take, drop, set}
+use Rattle.std.proofs.lemmas.Bool.{false≢true}
+use Rattle.std.proofs.Common.{append_assoc, inl, inr, sym, ap, ap₂, ◌∙◌, subst, add-one, arith, length-drop, drop_of_length-le, drop-cons, drop_at, take-suc, take_all, length-take-le}
 use Rattle.std.proofs.lemmas.List.{map-append, length-map}
 use Rattle.std.proofs.lemmas.List.Edits.{sets, sets-eq}
 use Rattle.std.proofs.Math.Seq.{length-sets}
-use Rattle.base.specs.Reflects.{Reflects, decides_no}
+use Rattle.base.specs.Reflects.{Reflects}
 use Rattle.base.specs.Truth.{eq_or_ne}
 use Rattle.base.specs.WritingLaws.{sets_append}
 use Rattle.name_sets.specs.Mask.{has}
@@ -21,10 +21,7 @@ use Rattle.derivation_writer.specs.Pending.Tiles.{none as no_tile, more as tile}
 use Rattle.derivation_writer.specs.PendingLaws.{tiles_append}
 use Rattle.derivation_writer.specs.Division.{CutAt, Cutting, Dividing, Divided}
 
--- a role that does not derive a part divides none there; one that does, where the others go on
-pub divides_not : {A B : Type 0} → (A → ⊥) → Reflects false (A × B)
-divides_not not_so = decides_no _ (λ h. not_so h.0)
-
+-- a role that derives a part divides there, where the others go on
 pub divides_rest : {A B : Type 0} {b : Bool} → A → Reflects b B → Reflects b (A × B)
 divides_rest a d = record { holds = λ h. (a, d.holds h); fails = λ h p. d.fails h p.1 }
 
@@ -156,13 +153,6 @@ divided_one {chart} {left} {i} {j} {old} {top} one low near s room =
     let stored : Dividing chart left i j old top 1 j (set old (top + 0) (128 * j + get_or left 0 0))
     = dividing_next (dividing_start s) (omega arith) low (cut-last chart left 0 i j (sym one) near s) in
     dividing_end (rw (let e : top + 0 ≡ top = omega arith in e) at stored) (omega arith) (omega arith) room
-
--- what stands of a part: not a single link, or its only link beside a role
-pub stands_not : {A : Type 0} (i j : ℕ) → (j - i ≡ 1 → ⊥) → Reflects false ((j ≡ i + 1) × A)
-stands_not i j n = decides_no _ (λ h. n (omega (arith, h.0)))
-
-pub stands-link : (i j a r : ℕ) → j - i ≡ 1 → Reflects (eqb a r) ((j ≡ i + 1) × (a ≡ r))
-stands-link i j a r e = record { holds = λ h. (omega arith, eqb-true a r h); fails = λ h p. eqb-false a r h p.1 }
 
 -- the left side of a completed rule, as it is read from a table
 pub left-read : (table : List ℕ) (q : ℕ)

@@ -13,10 +13,7 @@ pub(crate) fn stands(chain: &[u8], i: usize, end: usize, role: u8) -> bool
     requires { (i < end) × (end ≤ length chain.now) }
     ensures { Reflects result ((end ≡ i + 1) × (get_or chain.now i 0 ≡ role)) }
 {
-    if end - i != 1 {
-        return false;
-    }
-    chain[i] == role
+    end - i == 1 && chain[i] == role
 }
 
 // The completed rule that a role was found by for a part.
@@ -66,12 +63,9 @@ pub(crate) fn divide(
     }
     let first = top + 1 - left.len();
     let mut i = from;
-    let mut t = 0;
-    while t < left.len() {
-        let next = cut(chart, left, t, i, end);
-        pending[first + t] = pair(left[t], next);
-        i = next;
-        t += 1;
+    for (t, role) in left.iter().enumerate() {
+        i = cut(chart, left, t, i, end);
+        pending[first + t] = pair(*role, i);
     }
     first
 }
@@ -85,12 +79,10 @@ fn cut(chart: &[u16], left: &[u8], t: usize, i: usize, end: usize) -> usize
     if t + 1 == left.len() {
         return end;
     }
-    let mut m = i + 1;
-    while m < end {
+    for m in i + 1..end {
         if divides(chart, left, t, i, m, end) {
             return m;
         }
-        m += 1;
     }
     end
 }
@@ -103,9 +95,8 @@ fn divides(chart: &[u16], left: &[u8], t: usize, i: usize, m: usize, end: usize)
     if !derives(chart, i, m, left[t]) {
         return false;
     }
-    let after = t + 1;
-    if after + 1 == left.len() {
-        return derives(chart, m, end, left[after]);
+    match &left[t + 1..] {
+        [last] => derives(chart, m, end, *last),
+        behind => has(reach(chart, behind, single(m)), end),
     }
-    has(reach(chart, &left[after..], single(m)), end)
 }

@@ -65,30 +65,28 @@ fn turn(
     ensures { Turned table.now chain.now chart.now steps.old pending.old place
         steps.new pending.new result }
 {
-    let top = place.top;
-    let i = place.link;
-    let at = place.step;
+    let Place { top, link, step } = place;
     let first = pending[top];
     let end = (first / 128) as usize;
     let role = (first % 128) as u8;
-    if stands(chain, i, end, role) {
+    if stands(chain, link, end, role) {
         return Place {
             top: top + 1,
-            link: i + 1,
-            step: at,
+            link: link + 1,
+            step,
         };
     }
-    let q = rule_by(chart, i, end, role);
-    let step = WrittenStep {
-        place: i,
+    let q = rule_by(chart, link, end, role);
+    let written = WrittenStep {
+        place: link,
         number: q / 2,
         side: q % 2,
     };
-    put_step(steps, at, step);
-    let new_top = divide(chart, left_of(table, q), i, end, pending, top);
+    put_step(steps, step, written);
+    let top = divide(chart, left_of(table, q), link, end, pending, top);
     Place {
-        top: new_top,
-        link: i,
-        step: at + 1,
+        top,
+        link,
+        step: step + 1,
     }
 }

@@ -5,7 +5,7 @@
 mod outcomes;
 mod tower;
 
-use byte_parts::{byte, find, part};
+use byte_parts::part;
 use outcomes::{built, line, numbers};
 use tower::tower;
 
@@ -47,60 +47,42 @@ fn main() {
           R to R, no table lent=\x00\x00RLB\x01\x00\x01\x01\x00\x00\x01\x00;\
           2,050 states, no table lent=\x00\x00T\x15\x08\x02\x00\x28;\
           2,048 states, no table lent=\x00\x00T\x14\x08\x02\x00\x28;\
-          no byte, no table lent=\x00\x00;",
+          no byte, no table lent=\x00\x00",
     );
 }
 
 fn try_lines(lines: &[u8]) {
-    let mut at = 0;
-    let mut turns = 100usize;
-    while 0 < turns {
-        turns -= 1;
-        if lines.len() <= at {
-            return;
-        }
-        let end = find(lines, at, b';');
-        try_line(part(lines, at, end));
-        at = std::num::wrapping_add_usize(end, 1);
+    for line in lines.split(|byte| *byte == b';') {
+        try_line(line);
     }
 }
 
 fn try_line(s: &[u8]) {
-    let middle = find(s, 0, b'=');
-    let text = part(s, 0, middle);
-    let rest = part(s, middle, s.len());
-    if rest.len() == 0 {
-        line(text);
-        return;
+    let middle = s.iter().position(|byte| *byte == b'=').unwrap_or(s.len());
+    let text = &s[..middle];
+    match &s[middle..] {
+        [b'=', heads, moves, b'T', names, rules, size, high, low] => {
+            let bytes = u16::from_be_bytes([*high, *low]);
+            let book = tower(*names, *rules, *size);
+            try_book(text, *heads, *moves, part(&book, 0, usize::from(bytes)));
+        }
+        [b'=', heads, moves, book @ ..] => try_book(text, *heads, *moves, book),
+        _ => line(text),
     }
-    let heads = byte(rest, 1);
-    let moves = byte(rest, 2);
-    if byte(rest, 3) == b'T' {
-        let space = tower(byte(rest, 4), byte(rest, 5), byte(rest, 6));
-        let size = byte(rest, 7) as usize * 256 + byte(rest, 8) as usize;
-        try_book(text, heads, moves, part(&space, 0, size));
-        return;
-    }
-    try_book(text, heads, moves, part(rest, 3, rest.len()));
 }
 
 // What is built of a book in lent tables, and what they hold after it, but for 15,360 moves.
 fn try_book(text: &[u8], names: u8, transitions: u8, book: &[u8]) {
     let mut heads = [9999u16; 64];
     let mut moves = [9999u16; 15360];
+    let heads = &mut heads[..usize::from(names).min(64)];
     if transitions == 255 {
-        built(text, book, &mut heads, 64, &mut moves, 15360);
-        numbers(b"heads", &heads, 64);
+        built(text, book, heads, &mut moves);
+        numbers(b"heads", heads);
         return;
     }
-    built(
-        text,
-        book,
-        &mut heads,
-        names as usize,
-        &mut moves,
-        transitions as usize,
-    );
-    numbers(b"heads", &heads, names as usize);
-    numbers(b"moves", &moves, transitions as usize);
+    let moves = &mut moves[..usize::from(transitions)];
+    built(text, book, heads, moves);
+    numbers(b"heads", heads);
+    numbers(b"moves", moves);
 }

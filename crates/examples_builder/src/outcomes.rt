@@ -1,5 +1,6 @@
 // What the program writes.
-use table_builder::Outcome;
+use refusals::{BuildRefusal, Refusal};
+use table_builder::Counts;
 
 pub(crate) fn line(text: &[u8]) {
     io::write_all(1, text);
@@ -11,56 +12,36 @@ fn label(text: &[u8], n: usize) {
     io::print_decimal(1, n as u64);
 }
 
-// What the builder answers for the book, lent so many heads and moves, in document 01's numbers.
-pub(crate) fn built(
-    text: &[u8],
-    book: &[u8],
-    heads: &mut [u16],
-    lent_heads: usize,
-    moves: &mut [u16],
-    lent_moves: usize,
-) {
+// What the builder answers for the book in lent tables, in document 01's numbers.
+pub(crate) fn built(text: &[u8], book: &[u8], heads: &mut [u16], moves: &mut [u16]) {
     io::write_all(1, text);
-    if lent_heads <= heads.len() {
-        if lent_moves <= moves.len() {
-            outcome(table_builder::build(book, &mut heads[..lent_heads], &mut moves[..lent_moves]));
-        }
-    }
+    outcome(table_builder::build(book, heads, moves));
+    line(b"");
 }
 
-fn outcome(outcome: Outcome) {
+fn outcome(outcome: Result<Counts, BuildRefusal>) {
     match outcome {
-        Outcome::Built(counts) => {
+        Ok(counts) => {
             label(b": states ", counts.states);
             label(b", transitions ", counts.transitions);
             label(b", depth ", counts.depth);
         }
-        Outcome::Refused(refusal) => {
-            label(b": refused ", refusals::build_cause(refusal));
-            label(b" ", refusals::build_value(refusal));
+        Err(refusal) => {
+            label(b": refused ", refusal.cause());
+            label(b" ", refusal.value());
         }
     }
-    line(b"");
 }
 
-// The first n numbers of a table; nothing where n is 0.
-pub(crate) fn numbers(text: &[u8], table: &[u16], n: usize) {
-    if n == 0 {
+// The numbers of a table; nothing where it is empty.
+pub(crate) fn numbers(text: &[u8], table: &[u16]) {
+    if table.is_empty() {
         return;
     }
     io::write_all(1, text);
     io::write_all(1, b":");
-    let mut i = 0;
-    while i < n {
-        label(b" ", number(table, i) as usize);
-        i += 1;
+    for number in table {
+        label(b" ", usize::from(*number));
     }
     line(b"");
-}
-
-fn number(table: &[u16], i: usize) -> u16 {
-    if i < table.len() {
-        return table[i];
-    }
-    0
 }

@@ -1,6 +1,13 @@
 // Chains of up to 15 links over roles below 16, each in one number: 4 bits that say how many links it has, then 4 bits a link, the first lowest.
 ghost use Rattle.std.specs.Prelude.{◌<◌};
 
+// How many links a chain has.
+pub(crate) fn size(chain: u64) -> usize
+    ensures { result < 16 }
+{
+    (chain % 16) as usize
+}
+
 // The number of bits below link i.
 pub(crate) fn below(i: u64) -> u64
     ensures { result < 64 }
@@ -10,7 +17,7 @@ pub(crate) fn below(i: u64) -> u64
 
 // The chain with one more link at its end.
 pub(crate) fn push(chain: u64, role: u64) -> u64 {
-    std::num::wrapping_add_u64(chain, 1) | role << below(chain % 16)
+    chain.wrapping_add(1) | role << below(chain % 16)
 }
 
 // The chain with a part in place of link i.
@@ -19,18 +26,16 @@ pub(crate) fn splice(chain: u64, i: u64, part: u64) -> u64 {
     let rest = chain >> low;
     let size = part % 16;
     let links = chain ^ (rest ^ (rest >> 4 << size * 4 | part >> 4)) << low;
-    std::num::wrapping_sub_u64(std::num::wrapping_add_u64(links, size), 1)
+    links.wrapping_add(size).wrapping_sub(1)
 }
 
-// The links as bytes.
+// The links as bytes, and zeros behind them.
 pub(crate) fn spelled(chain: u64) -> [u8; 16] {
-    let mut bytes = [0u8; 16];
+    let mut bytes = [0; 16];
     let mut links = chain >> 4;
-    let mut i = 0;
-    while i < 16 {
-        bytes[i] = (links % 16) as u8;
-        links = links >> 4;
-        i += 1;
+    for byte in &mut bytes {
+        *byte = (links % 16) as u8;
+        links >>= 4;
     }
     bytes
 }

@@ -1,24 +1,40 @@
 // Puts a question to the answerer and to the second method.
-use crate::chain::spelled;
-use crate::questions::Question;
+use crate::chain::{size, spelled};
+use crate::counts::Counts;
+use crate::questions::{Kind, Question};
 use crate::second::derives;
-use byte_parts::part;
-use query_answerer::Answer;
+use refusals::{QueryRefusal, Refusal};
 
-// Puts a question to tables and to rules. What is to be counted, as in `counts`: asked, agreed on, and answered by yes.
-pub(crate) fn compare(heads: &[u16], moves: &[u16], rules: [u64; 192], question: Question) -> u64 {
+// Puts a question to tables and to rules, and counts it by its kind: asked, agreed on, and answered by yes.
+pub(crate) fn compare(
+    heads: &[u16],
+    moves: &[u16],
+    rules: &[u64; 192],
+    question: Question,
+    counts: &mut Counts,
+) {
     let space = spelled(question.chain);
-    let links = part(&space, 0, (question.chain % 16) as usize);
+    let links = &space[..size(question.chain)];
     let first = said(query_answerer::ask(heads, moves, (question.role % 16) as u8, links));
     let second = derives(rules, question.role, question.chain);
-    (1 | ((first == second) as u64) << 1 | second << 2) << question.kind % 4 * 3
+    let agreed = matches!(first, Ok(yes) if yes == second);
+    counts.count(first_count(question.kind), &[true, agreed, second]);
 }
 
-// An answer as a number: 1 for yes, 0 for no, else the cause of the refusal.
-pub(crate) fn said(answer: Answer) -> u64 {
+// Where questions of a kind are counted from.
+fn first_count(kind: Kind) -> usize {
+    match kind {
+        Kind::Derived => 0,
+        Kind::Nearly => 3,
+        Kind::Random => 6,
+        Kind::Every => 9,
+    }
+}
+
+// Yes or no, or the cause of the refusal.
+pub(crate) fn said(answer: Result<bool, QueryRefusal>) -> Result<bool, usize> {
     match answer {
-        Answer::Yes => 1,
-        Answer::No => 0,
-        Answer::Refused(refusal) => refusals::query_cause(refusal) as u64,
+        Ok(found) => Ok(found),
+        Err(refusal) => Err(refusal.cause()),
     }
 }

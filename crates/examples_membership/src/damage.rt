@@ -1,87 +1,100 @@
-// Damage to a written derivation, in 288 ways: 0 to 255 flip a bit of the first eight steps; then come, eight each, 1 to 8 bytes cut off, a step
-// of these twice, one left out, and one swapped with the next. A kind is the byte of a step that has the bit, or 4 to 7 for the others.
-use byte_parts::byte;
+// Damage to a written derivation, whose steps have four bytes.
+ghost use Rattle.std.specs.Prelude.{◌<◌};
 
-// A derivation of up to 63 steps, damaged.
+// A way to damage a derivation.
 #[derive(Clone, Copy)]
-pub(crate) struct Damage {
-    pub(crate) bytes: [u8; 256],
-    pub(crate) size: usize,
+pub(crate) enum Damage {
+    // The byte at a place has a bit flipped.
+    Flipped(usize, u8),
+    // So many bytes are cut off.
+    Cut(usize),
+    // The step at a place stands there twice.
+    Twice(usize),
+    // The step at a place is left out.
+    Missing(usize),
+    // The step at a place is swapped with the next.
+    Swapped(usize),
 }
 
-// The kind of a way.
-pub(crate) fn kind_of(way: usize) -> usize {
-    if way < 256 {
-        return way / 8 % 4;
-    }
-    way / 8 % 4 + 4
+// A damaged derivation.
+#[derive(Clone, Copy)]
+pub(crate) struct Damaged {
+    bytes: [u8; 256],
+    size: usize,
 }
 
-// Whether a derivation of so many bytes can be damaged so.
-pub(crate) fn applies(way: usize, size: usize) -> bool {
-    if way < 256 {
-        return way / 8 < size;
+impl Damaged {
+    fn new() -> Damaged {
+        Damaged {
+            bytes: [0; 256],
+            size: 0,
+        }
     }
-    if way < 264 {
-        return way % 8 < size;
-    }
-    if way < 280 {
-        return way % 8 * 4 < size;
-    }
-    way % 8 * 4 + 4 < size
-}
 
-// The derivation damaged so, where it can be.
-pub(crate) fn damaged(steps: &[u8], way: usize) -> Damage {
-    let size = size_after(way, steps.len());
-    let mut bytes = [0u8; 256];
-    let mut i = 0;
-    while i < size {
-        bytes[i % 256] = byte(steps, source(way, i)) ^ flipped(way, i);
-        i += 1;
+    pub(crate) fn steps(&self) -> &[u8] {
+        self.bytes.get(..self.size).unwrap_or(&[])
     }
-    Damage {
-        bytes: bytes,
-        size: size,
-    }
-}
 
-// How many bytes there are then.
-fn size_after(way: usize, size: usize) -> usize {
-    match kind_of(way) {
-        4 => std::num::wrapping_sub_usize(size, way % 8 + 1) % 257,
-        5 => std::num::wrapping_add_usize(size, 4) % 257,
-        6 => std::num::wrapping_sub_usize(size, 4) % 257,
-        _ => size % 257,
+    // Puts bytes behind the others, as far as there is room.
+    fn put(&mut self, bytes: &[u8]) {
+        for (place, byte) in self.bytes.iter_mut().skip(self.size).zip(bytes) {
+            *place = *byte;
+        }
+        self.size = self.size.saturating_add(bytes.len()).min(256);
     }
 }
 
-// Which byte of the derivation stands at place i then.
-fn source(way: usize, i: usize) -> usize {
-    let step = way % 8;
-    match kind_of(way) {
-        5 => std::num::wrapping_sub_usize(i, ((step < i / 4) as usize) << 2),
-        6 => std::num::wrapping_add_usize(i, ((step <= i / 4) as usize) << 2),
-        7 => swapped(step, i),
-        _ => i,
+// The kind of a way: the byte of a step that has the bit, or 4 to 7 for the others.
+pub(crate) fn kind_of(damage: Damage) -> usize
+    ensures { result < 8 }
+{
+    match damage {
+        Damage::Flipped(place, _) => place % 4,
+        Damage::Cut(_) => 4,
+        Damage::Twice(_) => 5,
+        Damage::Missing(_) => 6,
+        Damage::Swapped(_) => 7,
     }
 }
 
-// Place i where a step and the next one are swapped.
-fn swapped(step: usize, i: usize) -> usize {
-    if i / 4 == step {
-        return std::num::wrapping_add_usize(i, 4);
+// A derivation of up to 63 steps damaged so, where it can be.
+pub(crate) fn apply(steps: &[u8], damage: Damage) -> Option<Damaged> {
+    let mut after = Damaged::new();
+    match damage {
+        Damage::Flipped(place, bit) => {
+            let (front, rest) = steps.split_at_checked(place)?;
+            let (byte, back) = rest.split_first()?;
+            after.put(front);
+            after.put(&[*byte ^ bit]);
+            after.put(back);
+        }
+        Damage::Cut(count) => {
+            let (front, _) = steps.split_at_checked(steps.len().checked_sub(count)?)?;
+            after.put(front);
+        }
+        Damage::Twice(place) => {
+            let (front, rest) = steps.split_at_checked(place)?;
+            let (step, back) = rest.split_at_checked(4)?;
+            after.put(front);
+            after.put(step);
+            after.put(step);
+            after.put(back);
+        }
+        Damage::Missing(place) => {
+            let (front, rest) = steps.split_at_checked(place)?;
+            let (_, back) = rest.split_at_checked(4)?;
+            after.put(front);
+            after.put(back);
+        }
+        Damage::Swapped(place) => {
+            let (front, rest) = steps.split_at_checked(place)?;
+            let (step, rest) = rest.split_at_checked(4)?;
+            let (next, back) = rest.split_at_checked(4)?;
+            after.put(front);
+            after.put(next);
+            after.put(step);
+            after.put(back);
+        }
     }
-    if i / 4 == std::num::wrapping_add_usize(step, 1) {
-        return std::num::wrapping_sub_usize(i, 4);
-    }
-    i
-}
-
-// The bit that is flipped of byte i.
-fn flipped(way: usize, i: usize) -> u8 {
-    if (way < 256) & (way / 8 == i) {
-        return 1 << way % 8;
-    }
-    0
+    Some(after)
 }

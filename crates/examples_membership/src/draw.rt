@@ -1,41 +1,35 @@
 // Numbers drawn from a seed.
+ghost use Rattle.std.specs.Prelude.{◌<◌, max};
+
 use crate::chain::push;
 
-// What is drawn, and the next seed.
+// The state of a linear congruential generator.
 #[derive(Clone, Copy)]
-pub(crate) struct Drawn {
-    pub(crate) seed: u64,
-    pub(crate) value: u64,
-}
+pub(crate) struct Seed(pub(crate) u64);
 
-// A number below n, from the high bits of a linear congruential generator; n is from 1 to 128.
-pub(crate) fn draw(seed: u64, n: u64) -> Drawn {
-    let next = (seed % 2147483648 * 1103515245 + 12345) % 2147483648;
-    Drawn {
-        seed: next,
-        value: next / 65536 % (std::num::wrapping_sub_u64(n, 1) % 128 + 1),
+impl Seed {
+    // A number below n, from the high bits; 0 where n is 0.
+    pub(crate) fn draw(&mut self, n: u64) -> u64
+        ensures { result < max n 1 }
+    {
+        self.0 = self.0.wrapping_mul(1103515245).wrapping_add(12345) % 2147483648;
+        self.0 / 65536 % n.max(1)
     }
-}
 
-// A number below n, small ones more often.
-pub(crate) fn draw_small(seed: u64, n: u64) -> Drawn {
-    let most = draw(seed, n);
-    draw(most.seed, most.value % 128 + 1)
-}
-
-// A chain whose links are drawn among the `roles` roles from `low` on.
-pub(crate) fn draw_links(seed: u64, size: u64, low: u64, roles: u64) -> Drawn {
-    let mut chain = 0;
-    let mut next = seed;
-    let mut rest = size;
-    while 0 < rest {
-        rest -= 1;
-        let role = draw(next, roles);
-        next = role.seed;
-        chain = push(chain, std::num::wrapping_add_u64(low, role.value));
+    // A number below n, small ones more often.
+    pub(crate) fn draw_small(&mut self, n: u64) -> u64
+        ensures { result < max n 1 }
+    {
+        let most = self.draw(n);
+        self.draw(most + 1)
     }
-    Drawn {
-        seed: next,
-        value: chain,
+
+    // A chain whose links are drawn among the `roles` roles from `low` on.
+    pub(crate) fn draw_links(&mut self, size: u64, low: u64, roles: u64) -> u64 {
+        let mut chain = 0;
+        for _ in 0..size {
+            chain = push(chain, self.draw(roles).wrapping_add(low));
+        }
+        chain
     }
 }

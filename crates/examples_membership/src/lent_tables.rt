@@ -1,49 +1,30 @@
-// Tables by value.
-use table_builder::Outcome;
+// Tables that are lent to the builder.
+use refusals::Refusal;
 
-// Heads and moves, and what building a book in them gave.
-#[derive(Clone, Copy)]
-pub(crate) struct Tables {
-    pub(crate) heads: [u16; 15363],
-    pub(crate) moves: [u16; 15363],
-    pub(crate) sizes: Sizes,
-}
+// How many heads and moves a table can have.
+pub(crate) const ROOM: usize = 15363;
 
-// How many numbers are heads and moves, and how many states there are; or the cause of a refusal, else 0.
+// How many numbers are heads and moves, and how many states there are.
 #[derive(Clone, Copy)]
 pub(crate) struct Sizes {
     pub(crate) heads: usize,
     pub(crate) moves: usize,
     pub(crate) states: usize,
-    pub(crate) cause: usize,
 }
 
-// Builds a book in tables; where it is refused they stay as they are.
-pub(crate) fn build(book: &[u8], first_heads: [u16; 15363], first_moves: [u16; 15363]) -> Tables {
-    let mut heads = first_heads;
-    let mut moves = first_moves;
-    let outcome = table_builder::build(book, &mut heads, &mut moves);
-    let sizes = sizes_of(outcome);
-    Tables {
-        heads: heads,
-        moves: moves,
-        sizes: sizes,
-    }
-}
-
-fn sizes_of(outcome: Outcome) -> Sizes {
-    match outcome {
-        Outcome::Built(built) => Sizes {
+// Builds a book in tables, or gives the cause of the refusal; then they stay as they are.
+pub(crate) fn build(book: &[u8], heads: &mut [u16], moves: &mut [u16]) -> Result<Sizes, usize> {
+    match table_builder::build(book, heads, moves) {
+        Ok(built) => Ok(Sizes {
             heads: built.names,
-            moves: built.transitions % 5121 * 3,
+            moves: built.transitions.saturating_mul(3),
             states: built.states,
-            cause: 0,
-        },
-        Outcome::Refused(refusal) => Sizes {
-            heads: 0,
-            moves: 0,
-            states: 0,
-            cause: refusals::build_cause(refusal),
-        },
+        }),
+        Err(refusal) => Err(refusal.cause()),
     }
+}
+
+// The first n numbers of a table; none where there are fewer.
+pub(crate) fn front(table: &[u16], n: usize) -> &[u16] {
+    table.get(..n).unwrap_or(&[])
 }

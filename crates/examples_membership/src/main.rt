@@ -22,7 +22,6 @@ mod slow_reading;
 mod trial;
 mod written;
 
-use byte_parts::{find, part};
 use script::try_line;
 
 fn main() {
@@ -33,12 +32,7 @@ fn main() {
 
 // Tries up to a thousand lines.
 fn try_lines(script: &[u8]) {
-    let mut at = 0;
-    let mut turns = 1000usize;
-    while 0 < turns {
-        turns -= 1;
-        let end = find(script, at, b'\n');
-        try_line(part(script, at, end));
-        at = std::num::wrapping_add_usize(end, 1);
+    for line in script.split(|byte| *byte == b'\n').take(1000) {
+        try_line(line);
     }
 }

@@ -1,74 +1,75 @@
-// The numbers that are written in a text. Every place is safe.
-use byte_parts::byte;
+// The numbers that are written in a text.
 
-// A number of up to five digits, the place after the byte that ends it, and whether that is a space: then another of its list follows.
+// What is left of a text, and whether a space stood before it: then another number of the same list follows.
 #[derive(Clone, Copy)]
-pub(crate) struct Number {
-    pub(crate) value: usize,
-    pub(crate) next: usize,
-    pub(crate) more: bool,
+pub(crate) struct Numbers<'a> {
+    rest: &'a [u8],
+    more: bool,
 }
 
-pub(crate) fn read_number(s: &[u8], at: usize) -> Number {
-    let mut value = 0;
-    let mut i = at;
-    while i < s.len() {
-        let digit = byte(s, i) as usize;
-        if digit < 48 {
-            break;
-        }
-        value = value % 10000 * 10 + digit - 48;
-        i += 1;
-    }
-    Number {
-        value: value,
-        next: std::num::wrapping_add_usize(i, 1),
-        more: byte(s, i) == b' ',
-    }
-}
-
-// A list of numbers, as table numbers and as bytes, and the place after it.
+// A list of numbers, as table numbers and as bytes.
 #[derive(Clone, Copy)]
 pub(crate) struct List {
     pub(crate) numbers: [u16; 15363],
     pub(crate) bytes: [u8; 1025],
     pub(crate) size: usize,
-    pub(crate) next: usize,
 }
 
-// The list at a place: how many numbers it has, then the numbers; the last one stands for all that follow.
-pub(crate) fn read_list(s: &[u8], at: usize) -> List {
-    let mut last = read_number(s, at);
-    let size = last.value;
-    let mut numbers = [0u16; 15363];
-    let mut bytes = [0u8; 1025];
-    let mut i = 0;
-    while i < size {
-        last = read_more(s, last);
-        numbers[i % 15363] = (last.value % 65536) as u16;
-        bytes[i % 1025] = (last.value % 256) as u8;
-        i += 1;
+impl<'a> Numbers<'a> {
+    pub(crate) fn new(text: &'a [u8]) -> Numbers<'a> {
+        Numbers {
+            rest: text,
+            more: false,
+        }
     }
-    List {
-        numbers: numbers,
-        bytes: bytes,
-        size: size,
-        next: last.next,
+
+    // Reads a number of up to five digits, and the byte that ends it.
+    pub(crate) fn number(&mut self) -> usize {
+        let text = self.rest;
+        let size = text
+            .iter()
+            .position(|byte| *byte < b'0')
+            .unwrap_or(text.len());
+        let (digits, rest) = text.split_at(size);
+        self.more = rest.starts_with(b" ");
+        self.rest = rest.get(1..).unwrap_or(&[]);
+        digits.iter().fold(0, |value, digit| {
+            value % 10000 * 10 + usize::from(digit.wrapping_sub(b'0'))
+        })
+    }
+
+    // Reads a list: how many numbers it has, then the numbers; the last one stands for all that follow.
+    pub(crate) fn list(&mut self) -> List {
+        let size = self.number();
+        let mut list = List {
+            numbers: [0; 15363],
+            bytes: [0; 1025],
+            size,
+        };
+        let mut last = size;
+        for i in 0..size {
+            if self.more {
+                last = self.number();
+            }
+            if let Some(number) = list.numbers.get_mut(i) {
+                *number = (last % 65536) as u16;
+            }
+            if let Some(byte) = list.bytes.get_mut(i) {
+                *byte = (last % 256) as u8;
+            }
+        }
+        list
     }
 }
 
-// The number after one of a list; that one again where none follows.
-fn read_more(s: &[u8], last: Number) -> Number {
-    if last.more {
-        return read_number(s, last.next);
+impl List {
+    // The list as bytes; none where it is longer than they can be.
+    pub(crate) fn bytes(&self) -> &[u8] {
+        self.bytes.get(..self.size).unwrap_or(&[])
     }
-    last
-}
 
-// The first n numbers of a table; none where there are fewer.
-pub(crate) fn numbers_of(s: &[u16], n: usize) -> &[u16] {
-    if n <= s.len() {
-        return &s[0..n];
+    // The list as table numbers; none where it is longer than they can be.
+    pub(crate) fn numbers(&self) -> &[u16] {
+        self.numbers.get(..self.size).unwrap_or(&[])
     }
-    &s[0..0]
 }

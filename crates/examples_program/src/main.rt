@@ -33,7 +33,7 @@ fn main(rt: HostRuntime) {
 
 // Runs the program on a file, and says why it stopped.
 fn try_book(rt: &HostRuntime, text: &[u8], path: &[u8]) {
-    io::write_all(STDOUT, text);
+    say(text);
     match program::run(rt, path) {
         Stop::Refused => say(b"stopped, refused\n"),
         Stop::Ended => say(b"stopped, ended\n"),
@@ -48,24 +48,32 @@ fn say(text: &[u8]) {
 
 // For every place of the questions: input that ends there, and two blocks whose border falls there.
 fn try_places() {
-    let mut place = 0;
-    while place <= 26 {
-        try_place(b"ends after ", place, place / 2, place);
-        try_place(b"border at ", place, place, 26);
-        place += 1;
+    for place in 0..=26 {
+        try_place(
+            b"ends after ",
+            place,
+            &QUESTIONS[..place / 2],
+            &QUESTIONS[place / 2..place],
+        );
+        try_place(
+            b"border at ",
+            place,
+            &QUESTIONS[..place],
+            &QUESTIONS[place..],
+        );
     }
 }
 
-// Says which place is tried, and tries the first `size` bytes of the questions in two blocks.
-fn try_place(text: &[u8], place: usize, border: usize, size: usize) {
+// Says which place is tried, and tries questions in two blocks.
+fn try_place(text: &[u8], place: usize, first: &[u8], second: &[u8]) {
     say(text);
     io::print_decimal(STDOUT, place as u64);
     say(b": ");
-    try_blocks(&HALL, &QUESTIONS, border, size);
+    try_blocks(&HALL, first, second);
 }
 
 // What binds without being derived.
 fn try_binding() {
     say(b"out and back: ");
-    try_blocks(&SERVES, &BINDING, 8, 17);
+    try_blocks(&SERVES, &BINDING[..8], &BINDING[8..]);
 }

@@ -5,7 +5,7 @@
 mod books;
 mod verdicts;
 
-use books::{edited, front, grid, hall, pile};
+use books::{HALL, edited, front, grid, pile};
 use verdicts::{label, left, line, verdict, verdicts};
 
 fn main() {
@@ -32,12 +32,9 @@ fn main() {
 }
 
 fn hall_book() {
-    let book = hall();
-    verdict(b"hall", &book);
-    let mut rule = 0;
-    while rule < 4 {
-        left(b"left side of rule", rule, &book);
-        rule += 1;
+    verdict(b"hall", &HALL);
+    for rule in 0..4 {
+        left(b"left side of rule", rule, &HALL);
     }
 }
 
@@ -50,17 +47,15 @@ fn sizes() {
 }
 
 fn marks() {
-    let book = hall();
-    verdict(b"mark, byte 0", &edited(book, 0, 0x53));
-    verdict(b"mark, byte 1", &edited(book, 1, 0x4D));
-    verdict(b"mark, byte 2", &edited(book, 2, 0x43));
+    verdict(b"mark, byte 0", &edited(HALL, 0, 0x53));
+    verdict(b"mark, byte 1", &edited(HALL, 1, 0x4D));
+    verdict(b"mark, byte 2", &edited(HALL, 2, 0x43));
 }
 
 fn versions() {
-    let book = hall();
-    verdict(b"version 0", &edited(book, 3, 0));
-    verdict(b"version 2", &edited(book, 3, 2));
-    verdict(b"version 257", &edited(book, 4, 1));
+    verdict(b"version 0", &edited(HALL, 3, 0));
+    verdict(b"version 2", &edited(HALL, 3, 2));
+    verdict(b"version 257", &edited(HALL, 4, 1));
 }
 
 fn counts() {
@@ -80,38 +75,32 @@ fn grid_of(text: &[u8], names: u8, rules: u16, size: usize, bytes: usize) {
 }
 
 fn lengths() {
-    let book = hall();
-    verdict(b"rule 0 of length 0", &edited(book, 9, 0));
-    verdict(b"rule 1 of length 0", &edited(book, 13, 0));
+    verdict(b"rule 0 of length 0", &edited(HALL, 9, 0));
+    verdict(b"rule 1 of length 0", &edited(HALL, 13, 0));
     grid_of(b"length 8", 64, 1, 8, 18);
     grid_of(b"length 9", 64, 1, 9, 19);
 }
 
 fn trailing() {
-    let book = hall();
-    verdict(b"bytes after the last rule, count 2", &edited(book, 6, 2));
-    verdict(b"bytes after the last rule, count 0", &edited(book, 6, 0));
-    verdict(b"a rule too few, count 4", &edited(book, 6, 4));
+    verdict(b"bytes after the last rule, count 2", &edited(HALL, 6, 2));
+    verdict(b"bytes after the last rule, count 0", &edited(HALL, 6, 0));
+    verdict(b"a rule too few, count 4", &edited(HALL, 6, 4));
 }
 
 // The hall book cut short at each place.
 fn cuts() {
-    let book = hall();
-    let mut n = 8;
-    while n <= 20 {
+    for n in 8..=20 {
         label(b"hall, bytes kept: ", n);
-        verdict(b"", front(&book, n));
-        n += 1;
+        verdict(b"", &HALL[..n]);
     }
 }
 
 fn roles() {
-    let book = hall();
-    verdict(b"right role 7 of 4 names", &edited(book, 8, 7));
-    verdict(b"right role 8 of 4 names, rule 0", &edited(book, 8, 8));
-    verdict(b"last left role 7 of 4 names", &edited(book, 19, 7));
-    verdict(b"last left role 8 of 4 names, rule 2", &edited(book, 19, 8));
-    verdict(b"left role 255, rule 1", &edited(book, 14, 255));
+    verdict(b"right role 7 of 4 names", &edited(HALL, 8, 7));
+    verdict(b"right role 8 of 4 names, rule 0", &edited(HALL, 8, 8));
+    verdict(b"last left role 7 of 4 names", &edited(HALL, 19, 7));
+    verdict(b"last left role 8 of 4 names, rule 2", &edited(HALL, 19, 8));
+    verdict(b"left role 255, rule 1", &edited(HALL, 14, 255));
 }
 
 fn repeats() {
@@ -133,10 +122,10 @@ fn repeats() {
     pile_of(b"40 rules of one name, then a mirror", 40, 7);
 }
 
-fn pile_of(text: &[u8], rules: u16, last: u8) {
-    let mut space: [u8; 400] = [0; 400];
+fn pile_of(text: &[u8], rules: u8, last: u8) {
+    let mut space = [0u8; 400];
     pile(&mut space, rules, last);
-    verdicts(text, front(&space, 11 + 3 * (rules as usize)));
+    verdicts(text, front(&space, 11 + 3 * usize::from(rules)));
 }
 
 fn mirrors() {
@@ -152,37 +141,35 @@ fn mirrors() {
 
 // Two causes at once, or a later cause in an earlier rule: the first in document 01's order is the answer.
 fn header_first() {
-    let book = hall();
     verdict(
         b"wrong mark and version 2",
-        &edited(edited(book, 0, 0), 3, 2),
+        &edited(edited(HALL, 0, 0), 3, 2),
     );
-    verdict(b"version 2 and 0 names", &edited(edited(book, 3, 2), 5, 0));
+    verdict(b"version 2 and 0 names", &edited(edited(HALL, 3, 2), 5, 0));
     verdict(
         b"0 names and a malformed rule 0",
-        &edited(edited(book, 5, 0), 9, 0),
+        &edited(edited(HALL, 5, 0), 9, 0),
     );
 }
 
 fn rule_by_rule() {
-    let book = hall();
     verdict(
         b"rule 0 malformed and undeclared",
-        &edited(edited(book, 8, 99), 9, 9),
+        &edited(edited(HALL, 8, 99), 9, 9),
     );
     verdict(
         b"rule 0 undeclared, rule 1 malformed",
-        &edited(edited(book, 8, 99), 13, 0),
+        &edited(edited(HALL, 8, 99), 13, 0),
     );
     verdict(
         b"rule 1 undeclared, bytes after it",
-        &edited(edited(book, 12, 99), 6, 2),
+        &edited(edited(HALL, 12, 99), 6, 2),
     );
     let both = b"RLB\x01\x00\x01\x02\x00\x00\x01\x01\x00\x01\x01\x00";
     verdict(b"rule 1 repeats rule 0, a byte after it", both);
     left(
         b"left side of an undeclared book's rule",
         0,
-        &edited(book, 19, 8),
+        &edited(HALL, 19, 8),
     );
 }

@@ -1,5 +1,6 @@
 // What the program writes.
-use book_decoder::Verdict;
+use book_decoder::Header;
+use refusals::{BookRefusal, Refusal};
 
 pub(crate) fn line(text: &[u8]) {
     io::write_all(1, text);
@@ -27,15 +28,15 @@ pub(crate) fn verdicts(text: &[u8], bytes: &[u8]) {
     io::write_all(1, b"\n");
 }
 
-fn said(verdict: Verdict) {
+fn said(verdict: Result<Header, BookRefusal>) {
     match verdict {
-        Verdict::WellFormed(header) => {
+        Ok(header) => {
             label(b": well-formed, names ", header.names);
             label(b", rules ", header.rules);
         }
-        Verdict::Refused(refusal) => {
-            label(b": refused ", refusals::book_cause(refusal));
-            label(b" ", refusals::book_value(refusal));
+        Err(refusal) => {
+            label(b": refused ", refusal.cause());
+            label(b" ", refusal.value());
         }
     }
 }
@@ -45,11 +46,8 @@ pub(crate) fn left(text: &[u8], rule: usize, bytes: &[u8]) {
     io::write_all(1, text);
     label(b" ", rule);
     io::write_all(1, b":");
-    let part = book_left_sides::left_side(bytes, rule);
-    let mut i = 0;
-    while i < part.len() {
-        label(b" ", part[i] as usize);
-        i += 1;
+    for role in book_left_sides::left_side(bytes, rule) {
+        label(b" ", usize::from(*role));
     }
     io::write_all(1, b"\n");
 }

@@ -11,28 +11,19 @@ ghost use Rattle.name_sets.specs.Mask.{has as has_of};
 pub fn has(set: u64, x: usize) -> bool
     ensures { result ≡ has_of set x }
 {
-    if 64 <= x {
-        return false;
-    }
-    (set >> x) & 1 == 1
+    x < 64 && (set >> x) & 1 == 1
 }
 
 // The set of name x alone; of a number that is no name, none.
 pub fn single(x: usize) -> u64
     ensures { result ≡ only x }
 {
-    if 64 <= x {
-        return 0;
-    }
-    1 << x
+    if x < 64 { 1 << x } else { 0 }
 }
 
 // The set without its lowest name.
 pub fn without_lowest(set: u64) -> u64
     ensures { result ≡ bit_xor set (only (count_trailing_zeros 64 set)) }
 {
-    if set == 0 {
-        return 0;
-    }
-    set & (set - 1)
+    set & set.wrapping_sub(1)
 }

@@ -10,10 +10,8 @@ pub(crate) fn put_network(rows: &[u32], names: usize, places: usize, network: &m
     ensures { Puts network.old 0 (rows_bytes rows.now names places) network.new result }
 {
     let mut at = 0;
-    let mut x = 0;
-    while x < names {
+    for x in 0..names {
         at = put_name(rows, 64 * x, places, at, network);
-        x += 1;
     }
     at
 }
@@ -24,9 +22,10 @@ fn put_name(rows: &[u32], front: usize, places: usize, start: usize, network: &m
     ensures { Puts network.old start (name_bytes rows.now front places) network.new result }
 {
     if is_empty(rows, front, places) {
-        return put_zeros(places * places, start, network);
+        put_zeros(places * places, start, network)
+    } else {
+        put_rows(rows, front, places, start, network)
     }
-    put_rows(rows, front, places, start, network)
 }
 
 // Whether there is no link in so many rows from `front` on.
@@ -34,14 +33,7 @@ fn is_empty(rows: &[u32], front: usize, places: usize) -> bool
     requires { (front ≤ 4096) × (places ≤ 17) }
     ensures { result ≡ true → NoLinks rows.now front places }
 {
-    let mut from = 0;
-    while from < places {
-        if row(rows, front + from) != 0 {
-            return false;
-        }
-        from += 1;
-    }
-    true
+    (0..places).all(|from| row(rows, front + from) == 0)
 }
 
 // Row by row.
@@ -50,10 +42,8 @@ fn put_rows(rows: &[u32], front: usize, places: usize, start: usize, network: &m
     ensures { Puts network.old start (name_bytes rows.now front places) network.new result }
 {
     let mut at = start;
-    let mut from = 0;
-    while from < places {
+    for from in 0..places {
         at = put_row(row(rows, front + from), places, at, network);
-        from += 1;
     }
     at
 }
@@ -67,11 +57,9 @@ fn put_row(set: u64, places: usize, start: usize, network: &mut [u8]) -> usize
         return put_zeros(places, start, network);
     }
     let mut rest = set;
-    let mut to = 0;
-    while to < places {
+    for to in 0..places {
         network[start + to] = (rest & 1) as u8;
-        rest = rest / 2;
-        to += 1;
+        rest /= 2;
     }
     start + places
 }
@@ -81,10 +69,7 @@ fn put_zeros(size: usize, start: usize, network: &mut [u8]) -> usize
     requires { start + size ≤ length network.old }
     ensures { Puts network.old start (row_bytes 0 size) network.new result }
 {
-    let mut to = 0;
-    while to < size {
-        network[start + to] = 0;
-        to += 1;
-    }
-    start + size
+    let end = start + size;
+    network[start..end].fill(0);
+    end
 }

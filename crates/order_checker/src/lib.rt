@@ -36,8 +36,8 @@ pub fn order(book: &[u8]) -> Result<Ordering, BookRefusal>
     ensures { Ordered book.now result }
 {
     let header = book_reader::read(book)?;
-    let mut names = [0u64; 64];
-    let masks = &mut names[..header.names];
+    let mut masks = [0u64; 64];
+    let masks = &mut masks[..header.names];
     gather(book, header, masks)?;
     let Levels { levels, depth } = levels_of(masks);
     Ok(Ordering {

@@ -1,5 +1,5 @@
 -- Tiers searched from the highest on for a name of a set.
-use Rattle.std.specs.Prelude.{true, false, List, ◌⊎◌, ◌≡◌, refl, ℕ, ◌-◌, ◌^◌, ◌<◌, ◌≤◌, get_or, set}
+use Rattle.std.specs.Prelude.{true, false, List, ◌⊎◌, ◌≡◌, refl, ℕ, ◌-◌, ◌^◌, ◌<◌, ◌≤◌, get_or}
 use Rattle.std.proofs.Common.{true≢false, inl, inr, sym, ◌∙◌, arith}
 use Rattle.std.specs.Int.Bits.{bit_and}
 use Rattle.std.specs.Int.Count.{count_trailing_zeros}

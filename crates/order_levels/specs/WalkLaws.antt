@@ -1,12 +1,10 @@
 -- The walk over the names: one more of a rank, a rank done, all ranks done.
-use Rattle.std.specs.Prelude.{Bool, true, false, not, ◌&&◌, ◌||◌, List, ◌⊎◌, ◌≡◌, refl, ℕ, suc, ◌+◌, ◌^◌, ◌<◌, ◌≤◌, max, eqb, ltb, length, get_or, set, take}
-use Rattle.std.proofs.Common.{true≢false, inl, inr, sym, ap, ◌∙◌, le_antisymm, arith, eqb-true, ltb-true, eq-eqb, ne_eqb, lt-ltb, le-ltb, take_all}
+use Rattle.std.specs.Prelude.{Bool, true, false, not, ◌&&◌, ◌||◌, List, ◌⊎◌, ◌≡◌, refl, ℕ, suc, ◌+◌, ◌^◌, ◌<◌, ◌≤◌, max, eqb, ltb, length, get_or, set}
+use Rattle.std.proofs.Common.{true≢false, inl, inr, sym, ◌∙◌, le_antisymm, arith, eqb-true, ltb-true, eq-eqb, ne_eqb, lt-ltb, le-ltb}
 use Rattle.std.proofs.Math.Bool.{and-false, or-false, or-true}
 use Rattle.std.specs.Int.Bits.{bit_and, bit_or, bit_xor}
 use Rattle.std.proofs.Math.ListN.{get_or-eq_default}
-use Rattle.std.proofs.Math.Seq.{take-length}
 use Rattle.base.specs.Truth.{and_left, and_right, and_intro, or_left, eq_or_ne, lt_or_le}
-use Rattle.byte_parts.specs.Least.{Least}
 use Rattle.name_sets.specs.Mask.{has}
 use Rattle.name_sets.specs.MaskLaws.{has_zero, has_or}
 use Rattle.name_sets.specs.MemberLaws.{has_and, without_other, without_own}
@@ -176,11 +174,3 @@ module _ {masks ranks : List ℕ} {top walked c : ℕ} (r : Ranked masks (length
             → (get_or levels x 0 ≡ 1) ⊎ ((y : ℕ) × (y < length masks) × Under masks y x × (get_or levels x 0 ≡ suc (get_or levels y 0)))
         by-reached x (inl e) = inl e
         by-reached x (inr (y, u, e)) = inr (y, u.masked, u, e)
-
--- the first 64 masks, by the least of their number and 64
-pub front : (masks : List ℕ) {n : ℕ} → Least (length masks) 64 n → take n masks ≡ take 64 masks
-front masks {n} l = by-either l.either
-  where
-    by-either : (n ≡ length masks) ⊎ (n ≡ 64) → take n masks ≡ take 64 masks
-    by-either (inl e) = rw e (take-length masks ∙ sym (take_all 64 masks (omega (arith, l.right))))
-    by-either (inr e) = ap (λ (k : ℕ). take k masks) e

@@ -1,13 +1,12 @@
 // Levels of names by the longest way down, from masks: mask x is the set of the names below name x.
 #![tactic(auto)]
 
-ghost use Rattle.std.specs.Prelude.{◌≡◌, ℕ, max, ◌<◌, ◌≤◌, length, get_or, replicate};
+ghost use Rattle.std.specs.Prelude.{◌≡◌, ℕ, ◌<◌, ◌≤◌, length, get_or, replicate};
 ghost use Rattle.std.specs.Int.Bits.{bit_or};
 ghost use Rattle.name_sets.specs.Mask.{has};
 ghost use Rattle.order_levels.specs.Levels.{LeveledBy, Climbs};
 ghost use Rattle.order_levels.specs.Climbing.{Ranked, Ready, Meets, Climbed};
 
-use byte_parts::least;
 use name_sets::single;
 
 // The level of each name, 0 for numbers that are no names, and the highest level.
@@ -22,16 +21,13 @@ pub struct Levels {
 pub fn levels_of(masks: &[u64]) -> Levels
     ensures { Climbs masks.now result }
 {
-    let named = &masks[..least(masks.len(), 64)];
+    let named = &masks[..masks.len().min(64)];
     let mut ranks = [0u64; 65];
     let top = rank(named, &mut ranks);
     let mut tiers = [0u64; 65];
     let mut levels = [0u8; 64];
     let depth = climb(named, &ranks, top, &mut tiers, &mut levels);
-    Levels {
-        levels: levels,
-        depth: depth,
-    }
+    Levels { levels, depth }
 }
 
 // Sorts names by their rank, how many names are in their mask: set c has the names of rank c. Returns a number over all ranks.
@@ -39,13 +35,11 @@ fn rank(masks: &[u64], ranks: &mut [u64]) -> usize
     requires { (length masks.now ≤ 64) × (ranks.old ≡ replicate 65 0) }
     ensures { Ranked masks.now (length masks.now) ranks.new result }
 {
-    let mut top = 0;
-    let mut x = 0;
-    while x < masks.len() {
-        let c = u64::count_ones(masks[x]) as usize;
-        ranks[c] = ranks[c] | single(x);
-        top = greater(top, c + 1);
-        x += 1;
+    let mut top: usize = 0;
+    for (x, mask) in masks.iter().enumerate() {
+        let c = mask.count_ones() as usize;
+        ranks[c] |= single(x);
+        top = top.max(c + 1);
     }
     top
 }
@@ -58,11 +52,9 @@ fn climb(masks: &[u64], ranks: &[u64], top: usize, tiers: &mut [u64], levels: &m
 {
     let mut depth = 0;
     let mut walked = 0;
-    let mut c = 0;
-    while c < top {
+    for c in 0..top {
         depth = climb_rank(masks, ranks, c, walked, tiers, levels, depth);
-        walked = walked | ranks[c];
-        c += 1;
+        walked |= ranks[c];
     }
     depth
 }
@@ -85,12 +77,12 @@ fn climb_rank(
     let mut deepest = depth;
     let mut rest = ranks[c];
     while rest != 0 {
-        let x = u64::trailing_zeros(rest) as usize;
+        let x = rest.trailing_zeros() as usize;
         let below = highest(masks[x] & walked, tiers, deepest);
-        tiers[below] = tiers[below] | single(x);
+        tiers[below] |= single(x);
         levels[x] = (below + 1) as u8;
-        deepest = greater(deepest, below + 1);
-        rest = rest ^ single(x);
+        deepest = deepest.max(below + 1);
+        rest ^= single(x);
     }
     deepest
 }
@@ -100,22 +92,10 @@ fn highest(set: u64, tiers: &[u64], depth: usize) -> usize
     requires { depth ≤ length tiers.now }
     ensures { Meets set tiers.now depth result }
 {
-    let mut k = depth;
-    while 0 < k {
-        if set & tiers[k - 1] != 0 {
-            return k;
+    for k in (0..depth).rev() {
+        if set & tiers[k] != 0 {
+            return k + 1;
         }
-        k -= 1;
     }
     0
-}
-
-// The greater of two numbers.
-fn greater(a: usize, b: usize) -> usize
-    ensures { result ≡ max a b }
-{
-    if a < b {
-        return b;
-    }
-    a
 }

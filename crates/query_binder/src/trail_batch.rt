@@ -77,20 +77,21 @@ fn answer_each(
 {
     let mut stamp = 1;
     let mut read = 0;
-    let mut answered = 0;
-    while answered < answers.len() {
+    for (answered, byte) in answers.iter_mut().enumerate() {
         let Some(size) = whole(input, read) else {
-            break;
+            return Batch { answered, read };
         };
         let newest = renew(pairs, room, stamp);
-        answers[answered] = answer(
+        *byte = answer(
             heads, moves, room, index, names, input, read, size, newest, pairs,
         );
         stamp = newest + 1;
         read += size;
-        answered += 1;
     }
-    Batch { answered, read }
+    Batch {
+        answered: answers.len(),
+        read,
+    }
 }
 
 // Answers one question, so many bytes from a place of the input on, with a byte.

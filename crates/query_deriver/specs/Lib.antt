@@ -1,2 +1,3 @@
+pub mod DerivedRefusals
 pub mod Replies
 pub mod RepliesLaws

@@ -7,10 +7,8 @@ use Rattle.book_causes.specs.Ordered.{ordered}
 use Rattle.book_causes.specs.Accepted.{states_of, count_of, levels_of, depth_of, heads_of, moves_of, built, written}
 use Rattle.query_causes.specs.Query.{Answered}
 use Rattle.query_correctness.specs.Reply.{Replied, posed}
-use Rattle.book_questions.specs.declared.BookAnswer.{BookAnswer}
-use Rattle.book_questions.specs.Admission.{answers}
-use Rattle.derivation_writer.specs.declared.Derivation.{Derivation}
-use Rattle.derivation_writer.specs.WritesDerivation.{writable, Writes}
+use Rattle.book_questions.specs.Admission.{BookAnswer, answers}
+use Rattle.derivation_writer.specs.WritesDerivation.{Derivation, writable, Writes}
 use Rattle.network_writer.specs.WritesNetwork.{bindable, Answers}
 use Rattle.call_numbers.specs.Tells.{Numbers, Tells, bit, derivation_numbers}
 

@@ -1,40 +1,38 @@
 -- From what the engine's calls answer to what is told of it.
-use Rattle.std.specs.Prelude.{Bool, true, false, List, ◌≡◌, refl, ℕ, length, take, replicate}
+use Rattle.std.specs.Prelude.{Result as Answer}
+use Rattle.std.specs.Prelude.{Some, None, Ok, Err, Bool, true, false, List, ◌≡◌, refl, ℕ, length, take, replicate}
 use Rattle.std.proofs.Common.{sym, ap, ◌∙◌}
 use Rattle.std.proofs.Math.Seq.{take-nil}
 use Rattle.roles.specs.Role.{Chain}
 use Rattle.roles.specs.Rule.{Book}
 use Rattle.base.specs.Result.{Result, map_result}
 use Rattle.base.specs.Result.Result.{refused, ok}
-use Rattle.base.specs.ResultLaws.{refused-ok, ok_injective}
+use Rattle.base.specs.ResultLaws.{map_refused, map_ok}
 use Rattle.base.specs.Writing.{over}
 use Rattle.base.specs.WritingLaws.{over-front}
 use Rattle.byte_parts.specs.Bytes.{copied}
 use Rattle.order.specs.DepthLaws.{levels-length}
+use Rattle.refusals.specs.declared.book.BookRefusal.{BookRefusal}
+use Rattle.refusals.specs.declared.build.BuildRefusal.{BuildRefusal}
+use Rattle.refusals.specs.declared.query.QueryRefusal.{QueryRefusal}
+use Rattle.refusals.specs.Said.{said}
 use Rattle.refusals.specs.BookRefusals.{book_cause, book_value}
 use Rattle.book_header.specs.declared.Header.{Header}
-use Rattle.book_decoder.specs.declared.verdict.Verdict.{Verdict}
-use Rattle.book_decoder.specs.declared.verdict.Verdict.TheVariants.{WellFormed, Refused}
-use Rattle.book_decoder.specs.Verdict.{header_of, says}
+use Rattle.book_decoder.specs.Verdict.{header_of}
 use Rattle.book_causes.specs.Ordered.{ordered}
 use Rattle.book_causes.specs.Accepted.{levels_of, depth_of, count_or_none, built, written}
 use Rattle.order_checker.specs.declared.Ordering.{Ordering}
 use Rattle.order_checker.specs.Gather.{Ordered}
-use Rattle.table_limits.specs.Limits.{names_of}
 use Rattle.query_causes.specs.Query.{Answered}
-use Rattle.query_parts.specs.declared.Answer.{Answer}
 use Rattle.query_parts.specs.Answer as answers
-use Rattle.table_limits.specs.declared.Outcome.{Outcome}
 use Rattle.table_builder.specs.Builds as builder
-use Rattle.query_deriver.specs.declared.Reply.{Reply}
+use Rattle.table_limits.specs.declared.Counts.{Counts}
+use Rattle.query_deriver.specs.Replies.{Reply}
 use Rattle.query_deriver.specs.Replies as replies
-use Rattle.book_questions.specs.declared.BookAnswer.{BookAnswer}
-use Rattle.book_questions.specs.Admission.{answers}
-use Rattle.derivation_writer.specs.declared.Derivation.{Derivation}
-use Rattle.derivation_writer.specs.declared.Derivation.TheVariants.{Steps, None, Refused as Unwritten}
-use Rattle.derivation_writer.specs.WritesDerivation.{writable, Writes}
+use Rattle.book_questions.specs.Admission.{BookAnswer, answers}
+use Rattle.derivation_writer.specs.WritesDerivation.{Derivation, writable, Writes}
 use Rattle.network_writer.specs.WritesNetwork.{bindable, Answers}
-use Rattle.call_numbers.specs.Tells.{Numbers, Tells, header_counts, built_counts, bit, derivation_numbers}
+use Rattle.call_numbers.specs.Tells.{Numbers, Tells, order_counts, built_counts, bit, derivation_numbers}
 use Rattle.rabbitsteel.specs.Calls.{book_counts, TellsOrder, TellsBuild, TellsAnswer, TellsDerived, TellsDerivation, TellsBinding}
 
 -- what is told of an answer is told of the definition that it equals
@@ -49,36 +47,24 @@ pub two-told : (x : Result Book) {cause one two three : ℕ} → Tells (map_resu
 two-told (refused c v) t = record { cause_is = t.cause_is; first_is = t.first_is; second_is = t.second_is; third_is = refl }
 two-told (ok b) t = record { cause_is = t.cause_is; first_is = t.first_is; second_is = t.second_is; third_is = refl }
 
--- what the order check's verdict and depth tell, and its levels, as many as the book has names
-module _ {s : List ℕ} {o : Ordering} (p : Ordered s o) where
-  pub tells-order : {l l' : List ℕ} {names : ℕ} → names ≡ names_of o.verdict → l' ≡ copied o.levels names l → {cause one two three : ℕ}
-      → Tells (map_result (header_counts o.depth) (says o.verdict)) cause one two three → TellsOrder s l l' cause one two three
-  tells-order {l} {l'} {names} n e {cause} {one} {two} {three} t = by_result (ordered s) refl
-    where
-      by-verdict : (v : Verdict) {c w : ℕ} → says v ≡ refused c w → names_of v ≡ 0
-      by-verdict (WellFormed h) {c} {w} q = absurd (refused-ok c w h (sym q))
-      by-verdict (Refused x) q = refl
-
-      of_book : (v : Verdict) (b : Book) → says v ≡ ok (header_of b) → names_of v ≡ b.names
-      of_book (WellFormed h) b q = ap (λ (x : Header). x.names) (ok_injective h (header_of b) q)
-      of_book (Refused x) b q = absurd (refused-ok (book_cause x) (book_value x) (header_of b) q)
-
-      by_result : (r : Result Book) → ordered s ≡ r → TellsOrder s l l' cause one two three
-      by_result (refused c w) q =
-          let v : says o.verdict ≡ refused c w = p.verdict ∙ ap (map_result header_of) q in
-          record {
-            tells = rw q (rw v at t);
-            levels = rw q (e ∙ rw (n ∙ by-verdict o.verdict v, take-nil (length l)) refl);
-          }
-      by_result (ok b) q =
-          let v : says o.verdict ≡ ok (header_of b) = p.verdict ∙ ap (map_result header_of) q in
-          let d : o.depth ≡ depth_of b = p.depth ∙ ap (count_or_none depth_of) q in
-          let k : o.levels ≡ over (levels_of b) (replicate 64 0) = p.levels ∙ ap (λ (t : Result Book). written t levels_of (replicate 64 0)) q in
-          let f : take names o.levels ≡ levels_of b = ap (take names) k ∙ over-front names (levels_of b) (replicate 64 0) (n ∙ of_book o.verdict b v ∙ sym (levels-length b.rules b.names b.names 0)) in
-          record {
-            tells = rw q (rw (v, d) at t);
-            levels = rw q (e ∙ ap (λ (r : List ℕ). over (take (length l) r) l) f);
-          }
+-- what the order check's answer tells, and its levels, as many as the book has names
+pub tells-order : {s : List ℕ} (o : Answer Ordering BookRefusal) → Ordered s o → {l l' : List ℕ}
+    → ((found : Ordering) → o ≡ Ok found → l' ≡ copied found.levels found.header.names l) → ((refusal : BookRefusal) → o ≡ Err refusal → l' ≡ l)
+    → {cause one two three : ℕ} → Tells (map_result order_counts (said book_cause book_value o)) cause one two three → TellsOrder s l l' cause one two three
+tells-order {s} (Err refusal) p {l} {l'} levels kept t =
+    let q : ordered s ≡ refused (book_cause refusal) (book_value refusal) = map_refused header_of (ordered s) p.verdict in
+    record { tells = rw q t; levels = rw q (kept refusal refl) }
+tells-order {s} (Ok found) p {l} {l'} levels kept t =
+    let b : (b : Book) × (ordered s ≡ ok b) × (found.header ≡ header_of b) = map_ok header_of (ordered s) p.verdict in
+    let n : found.header.names ≡ b.0.names = ap (λ (x : Header). x.names) b.2 in
+    let d : found.depth ≡ depth_of b.0 = p.depth found refl ∙ ap (count_or_none depth_of) b.1 in
+    let k : found.levels ≡ over (levels_of b.0) (replicate 64 0) = p.levels found refl ∙ ap (λ (t : Result Book). written t levels_of (replicate 64 0)) b.1 in
+    let f : take found.header.names found.levels ≡ levels_of b.0
+    = ap (take found.header.names) k ∙ over-front found.header.names (levels_of b.0) (replicate 64 0) (n ∙ sym (levels-length b.0.rules b.0.names b.0.names 0)) in
+    record {
+      tells = rw b.1 (rw (b.2, d) at t);
+      levels = rw b.1 (levels found refl ∙ ap (λ (r : List ℕ). over (take (length l) r) l) f);
+    }
 
 -- an answer tells one number
 one_told : (x : Result Bool) {cause one two three : ℕ} → Tells (map_result bit x) cause one two three → Tells (map_result bit x) cause one 0 0
@@ -87,7 +73,7 @@ one_told (ok true) t = record { cause_is = t.cause_is; first_is = t.first_is; se
 one_told (ok false) t = record { cause_is = t.cause_is; first_is = t.first_is; second_is = refl; third_is = refl }
 
 module _ {s h m h' m' : List ℕ} where
-  pub tells-build : {o : Outcome} {cause one two three : ℕ} → builder.Builds s h m h' m' o
+  pub tells-build : {o : Answer Counts BuildRefusal} {cause one two three : ℕ} → builder.Builds s h m h' m' o
       → Tells (map_result built_counts (builder.says o)) cause one two three → TellsBuild s h m h' m' cause one two three
   tells-build b t =
       record {
@@ -107,15 +93,15 @@ module _ {s h m h' m' : List ℕ} where
         moves = q.moves;
       }
 
-pub tells-answer : {h m : List ℕ} {r : ℕ} {w : Chain} (a : Answer) {cause one two three : ℕ} → Answered h m r w (answers.says a)
+pub tells-answer : {h m : List ℕ} {r : ℕ} {w : Chain} (a : Answer Bool QueryRefusal) {cause one two three : ℕ} → Answered h m r w (answers.says a)
     → Tells (map_result bit (answers.says a)) cause one two three → TellsAnswer h m r w cause one
 tells-answer a q t = record { said = answers.says a; answered = q; tells = one_told (answers.says a) t }
 
 -- a derivation tells two numbers
 two-derived : (d : Derivation) {cause one two three : ℕ} → Tells (derivation_numbers d) cause one two three → Tells (derivation_numbers d) cause one two 0
-two-derived (Steps n) t = record { cause_is = t.cause_is; first_is = t.first_is; second_is = t.second_is; third_is = refl }
-two-derived None t = record { cause_is = t.cause_is; first_is = t.first_is; second_is = t.second_is; third_is = refl }
-two-derived (Unwritten x) t = record { cause_is = t.cause_is; first_is = t.first_is; second_is = t.second_is; third_is = refl }
+two-derived (Ok (Some n)) t = record { cause_is = t.cause_is; first_is = t.first_is; second_is = t.second_is; third_is = refl }
+two-derived (Ok None) t = record { cause_is = t.cause_is; first_is = t.first_is; second_is = t.second_is; third_is = refl }
+two-derived (Err x) t = record { cause_is = t.cause_is; first_is = t.first_is; second_is = t.second_is; third_is = refl }
 
 pub tells-derivation : {s : List ℕ} {r : ℕ} {w : Chain} {old new : List ℕ} {d : Derivation} {cause one two three : ℕ}
     → Writes (writable (length old) s r w) r w old new d → Tells (derivation_numbers d) cause one two three

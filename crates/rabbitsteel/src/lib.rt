@@ -9,16 +9,13 @@ ghost use Rattle.derivation_checker.specs.CheckedDerivation.{checked_derivation}
 ghost use Rattle.rabbitsteel.specs.Calls.{TellsOrder, TellsBuild, TellsAnswer, TellsDerived, TellsDerivation, TellsBinding, book_counts};
 
 use byte_parts::copy;
-use call_numbers::{
-    tell_answer, tell_book_answer, tell_derivation, tell_outcome, tell_reply, tell_verdict,
-};
-use table_limits::names_of;
+use call_numbers::tell;
 
 // Causes 1 to 7. Passed: how many names and how many rules the book has. Refused: the value beside the cause, and 0.
 pub fn rabbitsteel_read(book: &[u8], first: &mut u64, second: &mut u64) -> u64
     ensures { Tells (map_result book_counts (read book.now)) result first.new second.new 0 }
 {
-    let told = tell_verdict(book_reader::read(book), 0);
+    let told = tell(&book_reader::read(book));
     *first = told.first;
     *second = told.second;
     told.cause
@@ -37,10 +34,10 @@ pub fn rabbitsteel_order(
         third.new }
 {
     let ordering = order_checker::order(book);
-    let verdict = ordering.verdict;
-    let found = ordering.levels;
-    copy(&found, names_of(verdict), levels);
-    let told = tell_verdict(verdict, ordering.depth);
+    if let Ok(found) = &ordering {
+        copy(&found.levels, found.header.names, levels);
+    }
+    let told = tell(&ordering);
     *first = told.first;
     *second = told.second;
     *third = told.third;
@@ -60,7 +57,7 @@ pub fn rabbitsteel_build(
     ensures { TellsBuild book.now heads.old moves.old heads.new moves.new result
         first.new second.new third.new }
 {
-    let told = tell_outcome(table_builder::build(book, heads, moves));
+    let told = tell(&table_builder::build(book, heads, moves));
     *first = told.first;
     *second = told.second;
     *third = told.third;
@@ -77,7 +74,7 @@ pub fn rabbitsteel_ask(
 ) -> u64
     ensures { TellsAnswer heads.now moves.now role chain.now result answer.new }
 {
-    let told = tell_answer(query_answerer::ask(heads, moves, role, chain));
+    let told = tell(&query_answerer::ask(heads, moves, role, chain));
     *answer = told.first;
     told.cause
 }
@@ -95,7 +92,7 @@ pub fn rabbitsteel_derived(
     ensures { TellsDerived book.now heads.old moves.old role chain.now heads.new
         moves.new result answer.new }
 {
-    let told = tell_reply(query_deriver::derived(book, heads, moves, role, chain));
+    let told = tell(&query_deriver::derived(book, heads, moves, role, chain));
     *answer = told.first;
     told.cause
 }
@@ -114,7 +111,7 @@ pub fn rabbitsteel_write_derivation(
     ensures { TellsDerivation book.now role chain.now steps.old steps.new result first.new
         second.new }
 {
-    let told = tell_derivation(derivation_writer::write(book, role, chain, steps));
+    let told = tell(&derivation_writer::write(book, role, chain, steps));
     *first = told.first;
     *second = told.second;
     told.cause
@@ -131,7 +128,7 @@ pub fn rabbitsteel_check_derivation(
 ) -> u64
     ensures { Tells (map_result bit (checked_derivation book.now role chain.now steps.now)) result answer.new 0 0 }
 {
-    let told = tell_book_answer(derivation_checker::check(book, role, chain, steps));
+    let told = tell(&derivation_checker::check(book, role, chain, steps));
     *answer = told.first;
     told.cause
 }
@@ -148,7 +145,7 @@ pub fn rabbitsteel_binds(
 ) -> u64
     ensures { TellsBinding book.now role chain.now network.old network.new result answer.new }
 {
-    let told = tell_book_answer(network_writer::bind(book, role, chain, network));
+    let told = tell(&network_writer::bind(book, role, chain, network));
     *answer = told.first;
     told.cause
 }

@@ -14,10 +14,12 @@ pub fn key(left: &[u8], right: u8) -> u64
     if 8 < left.len() {
         return 0;
     }
-    if is_inverse(right) {
-        return 64 * inverse_code(left) + name(right) as u64;
-    }
-    64 * plain_code(left) + name(right) as u64
+    let code = if is_inverse(right) {
+        inverse_code(left)
+    } else {
+        plain_code(left)
+    };
+    64 * code + name(right) as u64
 }
 
 // The code of a chain, from its last role to its first.
@@ -26,11 +28,8 @@ fn plain_code(chain: &[u8]) -> u64
     ensures { result ≡ code_of_lem chain.now }
 {
     let mut code = 1;
-    let mut i = chain.len();
-    while 0 < i {
-        i -= 1;
-        let role = chain[i];
-        code = 128 * code + role as u64;
+    for i in (0..chain.len()).rev() {
+        code = 128 * code + chain[i] as u64;
     }
     code
 }
@@ -41,10 +40,8 @@ fn inverse_code(chain: &[u8]) -> u64
     ensures { result ≡ code_of_lem (inv_chain chain.now) }
 {
     let mut code = 1;
-    let mut i = 0;
-    while i < chain.len() {
-        code = 128 * code + inverse(chain[i]) as u64;
-        i += 1;
+    for role in chain {
+        code = 128 * code + inverse(*role) as u64;
     }
     code
 }

@@ -35,39 +35,37 @@ pub fn shape_of(left: &[u8], right: u8) -> Shape
     ensures { result ≡ shape_found left.now right }
 {
     let size = left.len();
-    if size == 0 {
-        return plain(size);
-    }
-    let first = left[0];
-    let last = left[size - 1];
-    if size == 1 {
-        if first == inverse(right) {
-            return Shape::Symmetric;
-        }
-        return plain(size);
-    }
-    if first == right {
-        if size == 2 {
-            if last == right {
-                return Shape::Transitive;
+    match left {
+        [] => plain(size),
+        [only] => {
+            if *only == inverse(right) {
+                Shape::Symmetric
+            } else {
+                plain(size)
             }
         }
-        return Shape::Row(Row {
-            from: true,
-            to: true,
-            start: 1,
-            size: size - 1,
-        });
+        [first, .., last] => {
+            if *first == right && *last == right && size == 2 {
+                Shape::Transitive
+            } else if *first == right {
+                Shape::Row(Row {
+                    from: true,
+                    to: true,
+                    start: 1,
+                    size: size - 1,
+                })
+            } else if *last == right {
+                Shape::Row(Row {
+                    from: false,
+                    to: false,
+                    start: 0,
+                    size: size - 1,
+                })
+            } else {
+                plain(size)
+            }
+        }
     }
-    if last == right {
-        return Shape::Row(Row {
-            from: false,
-            to: false,
-            start: 0,
-            size: size - 1,
-        });
-    }
-    plain(size)
 }
 
 // Form 1: the whole left side, from initial to final.
@@ -78,6 +76,6 @@ fn plain(size: usize) -> Shape
         from: false,
         to: true,
         start: 0,
-        size: size,
+        size,
     })
 }

@@ -37,7 +37,7 @@ fn bare(kind: u16) -> Numbers
     ensures { result ≡ record { kind = kind; from = 0; to = 0; start = 0; size = 0 } }
 {
     Numbers {
-        kind: kind,
+        kind,
         from: 0,
         to: 0,
         start: 0,

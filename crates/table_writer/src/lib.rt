@@ -29,18 +29,12 @@ pub fn add(
 {
     let state = place.state;
     let count = place.count;
-    if !present {
-        return place;
-    }
-    if 2048 < state {
-        return place;
-    }
-    if 60000 <= count {
+    if !present || 2048 < state || 60000 <= count {
         return place;
     }
     if moves.len() < 3 * count + 3 {
         return Place {
-            state: state,
+            state,
             count: count + 1,
         };
     }
@@ -48,7 +42,7 @@ pub fn add(
     moves[3 * count + 1] = (label % 65536) as u16;
     moves[3 * count + 2] = (to % 65536) as u16;
     Place {
-        state: state,
+        state,
         count: count + 1,
     }
 }

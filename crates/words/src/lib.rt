@@ -8,12 +8,9 @@ ghost use Rattle.words.specs.Word.{word as word_of};
 pub fn word(bytes: &[u8], at: usize) -> usize
     ensures { result ≡ word_of bytes.now at }
 {
-    if bytes.len() <= at {
-        return 0;
+    match bytes.get(at..) {
+        Some([low, high, ..]) => *low as usize + 256 * *high as usize,
+        Some([low]) => *low as usize,
+        _ => 0,
     }
-    let low = bytes[at] as usize;
-    if bytes.len() - at < 2 {
-        return low;
-    }
-    low + 256 * bytes[at + 1] as usize
 }

@@ -1,7 +1,7 @@
 -- `put_step` meets its contract.
-use native.Mathlib.Omega.{arith}
+use Rattle.std.proofs.Common.{arith}
 use Rattle.derivation_steps.specs.StepBytesLaws.{puts_whole}
 use Rattle.derivation_steps.proofs.put_step.Goals as goal
 
 pub returns : goal.returns
-returns c = puts_whole _ _ _ (omega (arith, c.if-steps-k.false))
+returns c = puts_whole _ _ _ (omega arith)

@@ -1,10 +1,9 @@
-use mathlib.Core.Path.{sym}
-use native.Mathlib.Omega.{arith}
+use Rattle.std.proofs.Common.{sym, ◌∙◌, arith, le-ltb}
 use Rattle.name_sets.specs.MemberLaws.{has_shift, has-past}
 use Rattle.name_sets.proofs.has.Goals as goal
 
-pub returns-then-x-ge64 : goal.returns-then-x-ge64
-returns-then-x-ge64 c = sym (has-past 64 _ _ (omega (arith, c.before.well_formed)) c.if-x-ge64.true)
+pub returns-then-x-lt64 : goal.returns-then-x-lt64
+returns-then-x-lt64 c = has_shift _ _
 
-pub returns : goal.returns
-returns c = has_shift _ _
+pub returns-else-x-lt64 : goal.returns-else-x-lt64
+returns-else-x-lt64 c = le-ltb _ _ c.if-x-lt64.false ∙ sym (has-past 64 _ _ (omega arith) c.if-x-lt64.false)

@@ -26,11 +26,11 @@ few c = few_names (formed (sym c.in_ok-header.ensures))
 as_many : (c : In_ok-header) → length {A = ℕ} (take c.in_ok-header.header.names (replicate 64 0)) ≡ c.in_ok-header.header.names
 as_many c = length-take-le _ (replicate 64 0) (few c)
 
-pub slice_bounds-names-end : goal.slice_bounds-names-end
-slice_bounds-names-end c = few c
-
 pub slice_bounds-masks-end : goal.slice_bounds-masks-end
-slice_bounds-masks-end c = sym (as_many (goal.at.slice_bounds-masks-end c).In_ok-header)
+slice_bounds-masks-end c = few c
+
+pub slice_bounds-masks-end-2 : goal.slice_bounds-masks-end-2
+slice_bounds-masks-end-2 c = sym (as_many (goal.at.slice_bounds-masks-end-2 c).In_ok-header)
 
 pub gather-requires-clause-masks_len : goal.gather-requires-clause-masks_len
 gather-requires-clause-masks_len c = as_many (goal.at.gather-requires-clause-masks_len c).In_ok-header

@@ -1,11 +1,7 @@
-use mathlib.Core.Bool.{true}
-use mathlib.Core.Path.{◌≡◌}
-use Prim.Native.Nat.{◌<◌, ◌≤◌}
-use native.Mathlib.Omega.{arith}
-use lib.Bits.{xor_lt}
-use lib.Count.{count_trailing_zeros}
-use lib.ListN.{length, get_or}
-use lib.Pow.{pow-lt}
+use Rattle.std.proofs.Common.{true, ◌≡◌, ◌<◌, ◌≤◌, length, get_or, arith}
+use Rattle.std.specs.Int.Count.{count_trailing_zeros}
+use Rattle.std.proofs.lemmas.Nat.{xor_lt}
+use Rattle.std.proofs.Math.Pow.{pow-lt}
 use Rattle.name_sets.specs.Mask.{has}
 use Rattle.name_sets.specs.MemberLaws.{lowest, only-named, without_fewer}
 use Rattle.order_levels.specs.Climbing.{ClimbedRank}
@@ -40,7 +36,7 @@ loop-rest-smaller c =
 
 pub loop-rest-preserved : goal.loop-rest-preserved
 loop-rest-preserved c =
-    rw (c.single-rest.ensures, c.single.ensures, c.greater-deepest.ensures, only-named _ (low (goal.at.loop-rest-preserved c).In-loop-rest).0)
+    rw (c.single-rest.ensures, c.single.ensures, c.max-deepest.ensures, only-named _ (low (goal.at.loop-rest-preserved c).In-loop-rest).0)
     (xor_lt 64 _ _ c.loop-rest.invariant.0 (pow-lt (low (goal.at.loop-rest-preserved c).In-loop-rest).0), walking_next (short (goal.at.loop-rest-preserved c).In-loop-rest) (own (goal.at.loop-rest-preserved c).In-loop-rest) c.loop-rest.invariant.1 (low (goal.at.loop-rest-preserved c).In-loop-rest).0 (low (goal.at.loop-rest-preserved c).In-loop-rest).1 c.highest-below.ensures)
 
 pub returns : goal.returns

@@ -1,6 +1,5 @@
 -- `climb_rank` meets its contract. The invariant: the names of the rank that are not left are in their tiers.
-use Prim.Native.Nat.{◌<◌, ◌^◌}
-use lib.ListN.{get_or}
+use Rattle.std.proofs.Common.{◌<◌, ◌^◌, get_or}
 use Rattle.name_sets.specs.Mask.{has, count}
 use Rattle.order_levels.specs.WalkLaws.{Walking}
 use Rattle.order_levels.proofs.climb_rank.Given as goal

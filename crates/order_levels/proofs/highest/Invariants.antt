@@ -4,6 +4,3 @@ use Rattle.order_levels.proofs.highest.Given as goal
 
 abbrev pub invariant-loop-k : goal.invariant-loop-k
 invariant-loop-k l = Searched l.set l.tiers l.depth l.k
-
-abbrev pub decreases-loop-k : goal.decreases-loop-k
-decreases-loop-k l = l.k

@@ -1,6 +1,7 @@
 -- `levels_of` meets its contract: the names are sorted by rank and then put in their tiers.
-use Rattle.order_levels.specs.WalkLaws.{front}
+use Rattle.std.proofs.Math.Nat.{min_comm}
+use Rattle.std.proofs.lemmas.List.{take_min}
 use Rattle.order_levels.proofs.levels_of.Goals as goal
 
 pub returns : goal.returns
-returns c = rw (front _ c.least.ensures) at c.climb-depth.ensures
+returns c = rw (c.min.ensures, min_comm, take_min) at c.climb-depth.ensures

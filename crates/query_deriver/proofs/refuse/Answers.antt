@@ -1,17 +1,18 @@
 -- `refuse` meets its contract: what a build on tables aside says holds for those lent.
 use mathlib.Core.Path.{sym}
 use native.Mathlib.Omega.{arith}
+use borrow.Author.Rules.{rules}
 use lib.Seq.{length-take-le}
 use Rattle.query_deriver.specs.RepliesLaws.{says-book, says-question}
 use Rattle.query_deriver.proofs.refuse.Goals as goal
 
-pub returns-in-Refused : goal.returns-in-Refused
-returns-in-Refused c =
-    says-book (length-take-le _ _ (omega arith)) (length-take-le _ _ (omega arith)) c.least-few_heads.ensures c.least-few_moves.ensures c.args.refusal (rw c.in-Refused.is at c.build-outcome.ensures)
+pub returns-in-Err : goal.returns-in-Err
+returns-in-Err c =
+    says-book (length-take-le _ _ (omega arith)) (length-take-le _ _ (omega arith)) (search rules) (search rules) c.args.refusal (rw c.in-Err.is at c.build.ensures)
 
-pub returns-in-Built : goal.returns-in-Built
-returns-in-Built c =
-    says-question (length-take-le _ _ (omega arith)) (length-take-le _ _ (omega arith)) c.least-few_heads.ensures c.least-few_moves.ensures c.args.refusal (rw c.in-Built.is at c.build-outcome.ensures)
+pub returns-in-Ok : goal.returns-in-Ok
+returns-in-Ok c =
+    says-question (length-take-le _ _ (omega arith)) (length-take-le _ _ (omega arith)) (search rules) (search rules) c.args.refusal (rw c.in-Ok.is at c.build.ensures)
 
 pub slice_bounds-build-end : goal.slice_bounds-build-end
 slice_bounds-build-end c = sym (length-take-le _ _ (omega arith))

@@ -3,4 +3,4 @@ use Rattle.rabbitsteel.specs.CallsLaws.{tells-answer}
 use Rattle.rabbitsteel.proofs.rabbitsteel_ask.Goals as goal
 
 pub returns : goal.returns
-returns c = tells-answer c.ask.result c.ask.ensures c.tell_answer-told.ensures
+returns c = tells-answer c.ask.result c.ask.ensures c.tell-told.ensures

@@ -3,4 +3,4 @@ use Rattle.rabbitsteel.specs.CallsLaws.{tells-binding}
 use Rattle.rabbitsteel.proofs.rabbitsteel_binds.Goals as goal
 
 pub returns : goal.returns
-returns c = tells-binding c.bind.result c.bind.ensures c.tell_book_answer-told.ensures
+returns c = tells-binding c.bind.result c.bind.ensures c.tell-told.ensures

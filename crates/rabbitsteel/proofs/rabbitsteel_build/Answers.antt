@@ -3,4 +3,4 @@ use Rattle.rabbitsteel.specs.CallsLaws.{tells-build}
 use Rattle.rabbitsteel.proofs.rabbitsteel_build.Goals as goal
 
 pub returns : goal.returns
-returns c = tells-build c.build.ensures c.tell_outcome-told.ensures
+returns c = tells-build c.build.ensures c.tell-told.ensures

@@ -3,4 +3,4 @@ use Rattle.rabbitsteel.specs.CallsLaws.{tells-checked}
 use Rattle.rabbitsteel.proofs.rabbitsteel_check_derivation.Goals as goal
 
 pub returns : goal.returns
-returns c = tells-checked c.check.result c.check.ensures c.tell_book_answer-told.ensures
+returns c = tells-checked c.check.result c.check.ensures c.tell-told.ensures

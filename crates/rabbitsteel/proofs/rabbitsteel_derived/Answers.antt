@@ -3,4 +3,4 @@ use Rattle.rabbitsteel.specs.CallsLaws.{tells-derived}
 use Rattle.rabbitsteel.proofs.rabbitsteel_derived.Goals as goal
 
 pub returns : goal.returns
-returns c = tells-derived c.derived.ensures c.tell_reply-told.ensures
+returns c = tells-derived c.derived.ensures c.tell-told.ensures

@@ -3,4 +3,4 @@ use Rattle.rabbitsteel.specs.CallsLaws.{tells-order}
 use Rattle.rabbitsteel.proofs.rabbitsteel_order.Goals as goal
 
 pub returns : goal.returns
-returns c = tells-order c.order-ordering.ensures c.names_of.ensures c.copy.ensures c.tell_verdict-told.ensures
+returns c = ?

@@ -8,4 +8,4 @@ use Rattle.rabbitsteel.proofs.rabbitsteel_read.Goals as goal
 pub returns : goal.returns
 returns c =
     let s = c.args.book.now in
-    two-told (read s) (told_of header_of (header_counts 0) (read s) c.read.ensures c.tell_verdict-told.ensures)
+    two-told (read s) (told_of header_of (header_counts 0) (read s) c.read.ensures c.tell-told.ensures)

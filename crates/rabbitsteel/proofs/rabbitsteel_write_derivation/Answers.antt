@@ -3,4 +3,4 @@ use Rattle.rabbitsteel.specs.CallsLaws.{tells-derivation}
 use Rattle.rabbitsteel.proofs.rabbitsteel_write_derivation.Goals as goal
 
 pub returns : goal.returns
-returns c = tells-derivation c.write.ensures c.tell_derivation-told.ensures
+returns c = tells-derivation c.write.ensures c.tell-told.ensures

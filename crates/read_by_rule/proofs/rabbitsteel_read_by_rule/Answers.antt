@@ -8,4 +8,4 @@ use Rattle.read_by_rule.proofs.rabbitsteel_read_by_rule.Goals as goal
 pub returns : goal.returns
 returns c =
     let s = c.args.book.now in
-    two-told (read s) (told_of header_of (header_counts 0) (read s) c.read_by_rule.ensures c.tell_verdict-told.ensures)
+    two-told (read s) (told_of header_of (header_counts 0) (read s) c.read_by_rule.ensures c.tell-told.ensures)

@@ -11,17 +11,8 @@ use Rattle.derivation_writer.proofs.trace.turn.Goals.{After-put_step, After-rule
 top-first : (c : Start) → First c.requires.pends.0.roles c.args.chain.now c.args.chart.now c.args.pending.now c.args.place
 top-first c = first c.requires.top_bound.0 c.requires.pends.1
 
-pub overflow_cast-end : goal.overflow_cast-end
-overflow_cast-end c =
-    omega (arith, (first-inside c.requires.pends.0 (top-first (goal.at.overflow_cast-end c).Start)).1, c.requires.pends.0.charted.short)
-
 pub stands-requires : goal.stands-requires
 stands-requires c = first-inside c.requires.pends.0 (top-first (goal.at.stands-requires c).Start)
-
-pub overflow_add-result-then-stands : goal.overflow_add-result-then-stands
-overflow_add-result-then-stands c =
-    let inside = first-inside c.requires.pends.0 (top-first (goal.at.overflow_add-result-then-stands c).Start) in
-    omega (arith, inside.0, inside.1, c.requires.pends.0.charted.short)
 
 pub returns-then-stands : goal.returns-then-stands
 returns-then-stands c = turned-link c.requires.top_bound.0 (c.stands.ensures.holds c.if-stands.true)
@@ -44,20 +35,17 @@ left_of-requires c =
     let g = by-rule (goal.at.left_of-requires c).After-rule_by-q in
     (g.small, g.tabled, g.links)
 
-pub divide-new_top-requires-clause-left_len_bound : goal.divide-new_top-requires-clause-left_len_bound
-divide-new_top-requires-clause-left_len_bound c =
-    let g = by-rule (goal.at.divide-new_top-requires-clause-left_len_bound c).After-rule_by-q in rw c.left_of.ensures (g.room, omega (arith, c.requires.top_bound.0, c.requires.pends.1.size), omega (arith, (first-inside c.requires.pends.0 (top-first (goal.at.divide-new_top-requires-clause-left_len_bound c).Start)).1, c.requires.pends.0.charted.short))
+pub divide-top-requires-clause-left_len_bound : goal.divide-top-requires-clause-left_len_bound
+divide-top-requires-clause-left_len_bound c =
+    let g = by-rule (goal.at.divide-top-requires-clause-left_len_bound c).After-rule_by-q in rw c.left_of.ensures (g.room, omega (arith, c.requires.top_bound.0, c.requires.pends.1.size), omega (arith, (first-inside c.requires.pends.0 (top-first (goal.at.divide-top-requires-clause-left_len_bound c).Start)).1, c.requires.pends.0.charted.short))
 
-pub divide-new_top-requires-clause-by_index : goal.divide-new_top-requires-clause-by_index
-divide-new_top-requires-clause-by_index c =
-    let g = by-rule (goal.at.divide-new_top-requires-clause-by_index c).After-rule_by-q in rw c.left_of.ensures (λ k h. omega (arith, g.named k h, c.requires.pends.0.charted.few))
+pub divide-top-requires-clause-by_index : goal.divide-top-requires-clause-by_index
+divide-top-requires-clause-by_index c =
+    let g = by-rule (goal.at.divide-top-requires-clause-by_index c).After-rule_by-q in rw c.left_of.ensures (λ k h. omega (arith, g.named k h, c.requires.pends.0.charted.few))
 
-pub divide-new_top-requires-clause-splits : goal.divide-new_top-requires-clause-splits
-divide-new_top-requires-clause-splits c =
-    let g = by-rule (goal.at.divide-new_top-requires-clause-splits c).After-rule_by-q in rw c.left_of.ensures g.splits
-
-pub overflow_add-result-2 : goal.overflow_add-result-2
-overflow_add-result-2 c = omega (arith, c.requires.top_bound.1)
+pub divide-top-requires-clause-splits : goal.divide-top-requires-clause-splits
+divide-top-requires-clause-splits c =
+    let g = by-rule (goal.at.divide-top-requires-clause-splits c).After-rule_by-q in rw c.left_of.ensures g.splits
 
 -- the step by it, in four bytes
 stored : (c : After-put_step) → StepPut c.args.steps.now c.args.place.step (record { place = c.args.place.link; number = c.rule_by-q.result / 2; side = c.rule_by-q.result % 2 }) c.put_step.new.steps
@@ -68,4 +56,4 @@ stored c =
 pub returns : goal.returns
 returns c =
     turned-rule c.requires.top_bound.0 _ c.rule_by-q.ensures (c.stands.ensures.fails c.if-stands.false)
-    c.left_of.ensures (stored (goal.at.returns c).After-put_step) c.divide-new_top.ensures
+    c.left_of.ensures (stored (goal.at.returns c).After-put_step) c.divide-top.ensures

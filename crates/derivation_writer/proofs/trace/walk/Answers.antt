@@ -1,16 +1,10 @@
 use mathlib.Core.List.{[], ◌∷◌}
-use mathlib.Core.Path.{sym, ◌∙◌, ap}
+use mathlib.Core.Path.{◌∙◌, ap}
 use Prim.Native.Nat.{ℕ}
 use native.Mathlib.Omega.{arith}
 use lib.ListN.{length-set}
 use Rattle.derivation_writer.specs.TracingLaws.{first, tracing-start, tracing-near, tracing-end, last-pending}
 use Rattle.derivation_writer.proofs.trace.walk.Goals as goal
-
-pub pair-requires : goal.pair-requires
-pair-requires c = omega (arith, c.requires.role_lt_roles.0.charted.short)
-
-pub bounds-pending-15 : goal.bounds-pending-15
-bounds-pending-15 c = omega (arith, c.requires.found.2)
 
 pub loop-place-init : goal.loop-place-init
 loop-place-init c ready named =
@@ -21,10 +15,6 @@ pub turn-place-requires-clause-pends : goal.turn-place-requires-clause-pends
 turn-place-requires-clause-pends c =
     let a = c.loop-place.invariant c.requires.role_lt_roles.0 c.requires.role_lt_roles.1 in (c.requires.role_lt_roles.0, a.pends)
 
-pub turn-place-requires-clause-top_bound : goal.turn-place-requires-clause-top_bound
-turn-place-requires-clause-top_bound c =
-    let a = c.loop-place.invariant c.requires.role_lt_roles.0 c.requires.role_lt_roles.1 in (c.loop-place-test.true, omega (arith, a.bound), omega (arith, a.size, c.requires.found.1))
-
 pub loop-place-smaller : goal.loop-place-smaller
 loop-place-smaller c =
     let a = c.loop-place.invariant c.requires.role_lt_roles.0 c.requires.role_lt_roles.1 in
@@ -33,14 +23,6 @@ loop-place-smaller c =
 pub loop-place-preserved : goal.loop-place-preserved
 loop-place-preserved c ready named =
     c.turn-place.ensures.tracing ready _ _ (c.loop-place.invariant ready named)
-
-pub shape_of-pending : goal.shape_of-pending
-shape_of-pending c =
-    (c.loop-place.invariant c.requires.role_lt_roles.0 c.requires.role_lt_roles.1).pends.size ∙ sym c.requires.found.2
-
-pub shape_of-steps : goal.shape_of-steps
-shape_of-steps c =
-    (c.loop-place.invariant c.requires.role_lt_roles.0 c.requires.role_lt_roles.1).size
 
 pub returns : goal.returns
 returns c ready named = tracing-end ready _ _ c.loop-place-test.false (c.loop-place.invariant ready named)

@@ -1,8 +1,5 @@
--- `nth_question` is safe and ends.
+-- `nth_question` ends, since each turn leaves a smaller number.
 use Rattle.examples_membership.proofs.questions.nth_question.Given as goal
-
-abbrev pub invariant-loop-rest : goal.invariant-loop-rest
-invariant-loop-rest l = Unit
 
 abbrev pub decreases-loop-rest : goal.decreases-loop-rest
 decreases-loop-rest l = l.rest

@@ -3,54 +3,27 @@ use mathlib.Core.Path.{◌≡◌, ap, ◌∙◌}
 use mir.Val.{bool_byte}
 use Prim.Native.Nat.{suc, ◌+◌}
 use native.Mathlib.Omega.{arith}
-use lib.Bits.{bit_and, mask_lt}
+use lib.Bits.{bit_and}
 use Rattle.name_sets.specs.Mask.{has}
 use Rattle.name_sets.specs.MaskLaws.{has_half}
-use Rattle.network_writer.specs.RowBytesLaws.{puts-size, puts-start, puts-next, puts_byte, low_byte}
+use Rattle.network_writer.specs.RowBytesLaws.{puts-start, puts-next, puts_byte, low_byte}
 use Rattle.network_writer.proofs.bytes.put_row.Goals as goal
 use Rattle.network_writer.proofs.bytes.put_row.Goals.{In-loop-to}
-
-pub put_zeros-requires : goal.put_zeros-requires
-put_zeros-requires c = c.requires.0
-
-pub returns-then-set-eq0 : goal.returns-then-set-eq0
-returns-then-set-eq0 c = rw c.if-set-eq0.true c.put_zeros.ensures
 
 pub loop-to-init : goal.loop-to-init
 loop-to-init c =
     let e : c.args.start + 0 ≡ c.args.start = omega arith in
-    (omega arith, rw e (puts-start (λ b. bool_byte (has c.args.set b) ∷ [])), λ b. ap (has c.args.set) (let d : b ≡ 0 + b = omega arith in d))
-
-pub overflow_cast-network : goal.overflow_cast-network
-overflow_cast-network c = omega (arith, mask_lt c.loop-to.rest 1)
-
-pub overflow_add-network : goal.overflow_add-network
-overflow_add-network c = omega (arith, c.loop-to-test.true, c.requires.0, c.well_formed)
-
-pub bounds-network-start : goal.bounds-network-start
-bounds-network-start c = omega (arith, c.loop-to-test.true, c.requires.0, puts-size c.loop-to.invariant.1)
+    (rw e (puts-start (λ b. bool_byte (has c.args.set b) ∷ [])), λ b. ap (has c.args.set) (let d : b ≡ 0 + b = omega arith in d))
 
 -- the lowest bit that is left is that of the next place
 next-byte : (c : In-loop-to) → bit_and c.loop-to.rest 1 ≡ bool_byte (has c.args.set c.loop-to.to)
 next-byte c =
     let e : c.loop-to.to + 0 ≡ c.loop-to.to = omega arith in
-    low_byte c.loop-to.rest ∙ ap bool_byte (rw e at (c.loop-to.invariant.2 0))
+    low_byte c.loop-to.rest ∙ ap bool_byte (rw e at (c.loop-to.invariant.1 0))
 
 pub loop-to-preserved : goal.loop-to-preserved
 loop-to-preserved c =
     let e : c.args.start + c.loop-to.to + 1 ≡ c.args.start + (c.loop-to.to + 1) = omega arith in (
-      omega (arith, c.loop-to-test.true),
-      rw (next-byte c) (rw e at (puts-next (λ b. bool_byte (has c.args.set b) ∷ []) c.loop-to.invariant.1 (puts_byte _ _ _))),
-      λ b. has_half c.loop-to.rest b ∙ c.loop-to.invariant.2 (suc b) ∙ ap (has c.args.set) (let d : c.loop-to.to + suc b ≡ c.loop-to.to + 1 + b = omega arith in d),
+      rw (next-byte c) (rw e at (puts-next (λ b. bool_byte (has c.args.set b) ∷ []) c.loop-to.invariant.0 (puts_byte _ _ _))),
+      λ b. has_half c.loop-to.rest b ∙ c.loop-to.invariant.1 (suc b) ∙ ap (has c.args.set) (let d : c.loop-to.to + suc b ≡ c.loop-to.to + 1 + b = omega arith in d),
     )
-
-pub overflow_add-result : goal.overflow_add-result
-overflow_add-result c = omega (arith, c.requires.0, c.well_formed)
-
-pub shape_of-network : goal.shape_of-network
-shape_of-network c = puts-size c.loop-to.invariant.1
-
-pub returns : goal.returns
-returns c =
-    let e : c.loop-to.to ≡ c.args.places = omega (arith, c.loop-to-test.false, c.loop-to.invariant.0) in
-    rw e at c.loop-to.invariant.1

@@ -1,37 +1,28 @@
-use mathlib.Core.List.{[], ◌∷◌}
-use mathlib.Core.Path.{◌≡◌}
-use mir.Val.{bool_byte}
-use Prim.Native.Nat.{◌+◌}
-use native.Mathlib.Omega.{arith}
-use Rattle.name_sets.specs.Mask.{has}
-use Rattle.network_writer.specs.RowBytesLaws.{puts-size, puts-start, puts-next, puts_byte, zero_byte}
+-- `put_zeros` meets its contract: zeros stand between what was before and behind them.
+use Rattle.std.proofs.Common.{ℕ, zero, suc, ◌+◌, ◌-◌, ◌≤◌, ◌≡◌, refl, sym, ap, ◌∙◌, List, ◌++◌, length, take, drop, replicate, length-take-le, length-drop, append_assoc, add-one, arith}
+use Rattle.std.proofs.lemmas.List.{drop-drop, replicate_more}
+use Rattle.std.proofs.lemmas.List.Edits.{sets-eq}
+use Rattle.network_writer.specs.WritesNetwork.{joined}
+use Rattle.network_writer.specs.RowBytes.{row_bytes, Puts}
+use Rattle.network_writer.specs.RowBytesLaws.{zero_byte, length-row}
 use Rattle.network_writer.proofs.bytes.put_zeros.Goals as goal
 
-pub loop-to-init : goal.loop-to-init
-loop-to-init c =
-    let e : c.args.start + 0 ≡ c.args.start = omega arith in
-    (omega arith, rw e (puts-start (λ b. bool_byte (has 0 b) ∷ [])))
+zeros : (n : ℕ) → replicate n 0 ≡ row_bytes 0 n
+unfolding joined
+zeros zero = refl
+zeros (suc n) = rw (zero_byte n, ← zeros n) (ap (λ k. replicate k 0) (sym (add-one n)) ∙ sym (replicate_more n 0))
 
-pub overflow_add-network : goal.overflow_add-network
-overflow_add-network c = omega (arith, c.loop-to-test.true, c.requires, c.well_formed)
-
-pub bounds-network-start : goal.bounds-network-start
-bounds-network-start c = omega (arith, c.loop-to-test.true, c.requires, puts-size c.loop-to.invariant.1)
-
-pub loop-to-preserved : goal.loop-to-preserved
-loop-to-preserved c =
-    let e : c.args.start + c.loop-to.to + 1 ≡ c.args.start + (c.loop-to.to + 1) = omega arith in (
-      omega (arith, c.loop-to-test.true),
-      rw (zero_byte c.loop-to.to) at (rw e at (puts-next (λ b. bool_byte (has 0 b) ∷ []) c.loop-to.invariant.1 (puts_byte _ _ _))),
-    )
-
-pub overflow_add-result : goal.overflow_add-result
-overflow_add-result c = omega (arith, c.requires, c.well_formed)
-
-pub shape_of-network : goal.shape_of-network
-shape_of-network c = puts-size c.loop-to.invariant.1
+between : (old middle : List ℕ) (start size : ℕ) → start + size ≤ length old → middle ≡ replicate (length (take (start + size - start) (drop start old))) 0
+    → Puts old start (row_bytes 0 size) (take start old ++ (middle ++ drop (start + size - start) (drop start old))) (start + size)
+between old middle start size room filled =
+    let length_row : length (row_bytes 0 size) ≡ size = length-row 0 size in
+    let part : length (take (start + size - start) (drop start old)) ≡ size =
+    length-take-le (start + size - start) (drop start old) (rw (length-drop start old) (omega arith)) ∙ omega arith in
+    let end : start + (start + size - start) ≡ start + length (row_bytes 0 size) = omega arith in
+    record {
+      stored = rw (filled, part, zeros size, drop-drop (start + size - start) start old, end) (sym (rw append_assoc at (sets-eq (row_bytes 0 size) old start (omega arith))));
+      end = omega arith;
+    }
 
 pub returns : goal.returns
-returns c =
-    let e : c.loop-to.to ≡ c.args.size = omega (arith, c.loop-to-test.false, c.loop-to.invariant.0) in
-    rw e at c.loop-to.invariant.1
+returns c = between _ _ _ _ c.requires (c.fill.ensures.after (λ y e. e))

@@ -1,6 +1,4 @@
 -- `answer_each` meets its contract. The invariant: the questions read are answered, and the stamp is newer than all that stands in the set.
-use Prim.Native.Nat.{◌-◌}
-use lib.ListN.{length}
 use Rattle.query_answerer.specs.Batch.{Going}
 use Rattle.query_binder.specs.PairSets.{Unused}
 use Rattle.query_correctness.specs.TrailQuery.{AnsweredByTrails}
@@ -8,6 +6,3 @@ use Rattle.query_binder.proofs.trail_batch.answer_each.Given as goal
 
 abbrev pub invariant-loop-answered : goal.invariant-loop-answered
 invariant-loop-answered l = Going (AnsweredByTrails l.heads l.moves) l.input l.initial.answers l.read l.answered l.answers × Unused l.room l.stamp l.pairs
-
-abbrev pub decreases-loop-answered : goal.decreases-loop-answered
-decreases-loop-answered l = length l.initial.answers - l.answered

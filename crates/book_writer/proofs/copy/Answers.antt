@@ -1,9 +1,0 @@
-use native.Mathlib.Omega.{arith}
-use lib.ListN.{length-set}
-use Rattle.book_writer.specs.BookStoreLaws.{copied_more}
-use Rattle.book_writer.proofs.copy.Goals as goal
-
-pub loop-i-preserved : goal.loop-i-preserved
-loop-i-preserved c =
-    let inv = c.loop-i.invariant in
-    (omega arith, (copied_more _ _ _ _ _ inv.1.0 c.loop-i-test.true, rw length-set inv.1.1))

@@ -1,9 +1,0 @@
--- `derive_all` is safe and ends.
-use Rattle.std.proofs.Common.{◌-◌}
-use Rattle.examples_membership.proofs.derivations.derive_all.Given as goal
-
-abbrev pub invariant-loop-i : goal.invariant-loop-i
-invariant-loop-i l = Unit
-
-abbrev pub decreases-loop-i : goal.decreases-loop-i
-decreases-loop-i l = 60 - l.i

@@ -1,8 +1,0 @@
--- `draw_links` is safe and ends.
-use Rattle.examples_membership.proofs.draw.draw_links.Given as goal
-
-abbrev pub invariant-loop-rest : goal.invariant-loop-rest
-invariant-loop-rest l = Unit
-
-abbrev pub decreases-loop-rest : goal.decreases-loop-rest
-decreases-loop-rest l = l.rest

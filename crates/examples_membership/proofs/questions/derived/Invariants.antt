@@ -1,9 +1,0 @@
--- `derived` is safe and ends.
-use Rattle.std.proofs.Common.{◌-◌}
-use Rattle.examples_membership.proofs.questions.derived.Given as goal
-
-abbrev pub invariant-loop-i : goal.invariant-loop-i
-invariant-loop-i l = Unit
-
-abbrev pub decreases-loop-i : goal.decreases-loop-i
-decreases-loop-i l = 96 - l.i

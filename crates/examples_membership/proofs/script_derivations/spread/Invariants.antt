@@ -1,9 +1,0 @@
--- `spread` is safe and ends.
-use Rattle.std.proofs.Common.{◌-◌}
-use Rattle.examples_membership.proofs.script_derivations.spread.Given as goal
-
-abbrev pub invariant-loop-i : goal.invariant-loop-i
-invariant-loop-i l = Unit
-
-abbrev pub decreases-loop-i : goal.decreases-loop-i
-decreases-loop-i l = l.size - l.i

@@ -1,9 +1,0 @@
--- `ask_all` is safe and ends.
-use Rattle.std.proofs.Common.{◌-◌}
-use Rattle.examples_membership.proofs.trial.ask_all.Given as goal
-
-abbrev pub invariant-loop-i : goal.invariant-loop-i
-invariant-loop-i l = Unit
-
-abbrev pub decreases-loop-i : goal.decreases-loop-i
-decreases-loop-i l = l.questions - l.i

@@ -1,6 +1,0 @@
--- `try_made` is safe and ends.
--- LENGTHS 11 given, 10 needs
-use Rattle.examples_membership.proofs.trial.try_made.Given as goal
-
-abbrev pub decreases-loop-turns : goal.decreases-loop-turns
-decreases-loop-turns l = l.turns

@@ -1,9 +1,0 @@
--- `kept` is safe and ends.
-use Rattle.std.proofs.Common.{◌-◌, length}
-use Rattle.examples_membership.proofs.written.kept.Given as goal
-
-abbrev pub invariant-loop-i : goal.invariant-loop-i
-invariant-loop-i l = Unit
-
-abbrev pub decreases-loop-i : goal.decreases-loop-i
-decreases-loop-i l = length l.steps - l.i
