@@ -53,8 +53,10 @@ impl Left {
 pub(crate) fn try_blocks(book: &[u8], first: &[u8], second: &[u8]) {
     let mut line = [0u8; 72];
     let opening = transcript_writer::open(book, &mut line);
-    let tables = opening.tables;
     io::write_all(STDOUT, part(&line, 0, opening.written));
+    let Some(tables) = opening.tables else {
+        return;
+    };
     let mut left = Left {
         bytes: [0; 64],
         size: 0,

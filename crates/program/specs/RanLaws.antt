@@ -1,5 +1,6 @@
 -- How reading, answering and writing block after block gives what the program says of its run.
-use Rattle.std.specs.Prelude.{Bool, true, false, List, [], ◌∷◌, ◌++◌, ◌⊎◌, ◌≡◌, refl, ℕ, zero, suc, ◌+◌, ◌-◌, ◌<◌, ◌≤◌, leb, length, get_or, take, drop}
+use Rattle.std.specs.Prelude.{Bool, true, false, List, [], ◌∷◌, ◌++◌, ◌⊎◌, ◌≡◌, refl, ℕ, zero, suc, ◌+◌, ◌-◌, ◌<◌, ◌≤◌, leb, length, get_or, take, drop, Some, None}
+use Rattle.std.proofs.lemmas.Option.{none-some}
 use Rattle.std.proofs.Common.{true≢false, append_assoc, append-nil, inl, inr, sym, ap, ◌∙◌, arith, leb-true, leb-false, take-append-drop, length-append, length-drop, take-take, length-take-le}
 use borrow.Rule.Slice.PartMut.{put_mid, mid_of, take_put, same_len_mid}
 use Rattle.roles.specs.Role.{Chain}
@@ -17,8 +18,9 @@ use Rattle.transcript_lines.specs.BlockLaws.{block-counts, block_goes}
 use Rattle.transcript_writer.specs.declared.block.Progress.{Progress}
 use Rattle.line_writer.specs.PutsLaws.{puts-front}
 use Rattle.transcript_writer.specs.Advances.{AnswersBlock}
+use Rattle.transcript_writer.specs.declared.opening.Tables.{Tables}
 use Rattle.transcript_writer.specs.declared.opening.Opening.{Opening}
-use Rattle.transcript_writer.specs.Opened.{heads_in, moves_in, is_ok, Opens}
+use Rattle.transcript_writer.specs.Opened.{heads_in, moves_in, tables_of, Opens}
 use Rattle.transcript_writer.specs.SessionLaws.{opened-blocks}
 use Rattle.program.specs.declared.Stop.{Stop}
 use Rattle.program.specs.declared.Stop.TheVariants.{Refused, Ended, Unwritten, Exhausted}
@@ -138,22 +140,22 @@ module _ {Says : ℕ → Chain → Result Bool → Type 0} {q q' q'' out out' : 
 
 -- what opening a book says of the run
 module _ {s h m line line' : List ℕ} {o : Opening} (p : Opens s h m line line' o) where
-  by-book : (b : Book) → built s 64 15360 ≡ ok b → {r : Stop} → Served (AnsweredByTrails (heads_in o.tables) (moves_in o.tables)) r
-      → Served (DecidedByBinding b) r
-  by-book b e (ended bs l) = ended (opened-blocks p b e bs) l
-  by-book b e (exhausted bs l) = exhausted (opened-blocks p b e bs) l
-  by-book b e unwritten = unwritten
+  by-book : {t : Tables} → o.tables ≡ Some t → (b : Book) → built s 64 15360 ≡ ok b → {r : Stop}
+      → Served (AnsweredByTrails (heads_in t) (moves_in t)) r → Served (DecidedByBinding b) r
+  by-book f b e (ended bs l) = ended (opened-blocks p f b e bs) l
+  by-book f b e (exhausted bs l) = exhausted (opened-blocks p f b e bs) l
+  by-book f b e unwritten = unwritten
 
-  pub ran_refused : o.accepted ≡ false → Ran Refused
+  pub ran_refused : o.tables ≡ None → Ran Refused
   ran_refused f = by_result (built s 64 15360) refl
     where
-      by_result : (t : Result Book) → built s 64 15360 ≡ t → Ran Refused
+      by_result : (x : Result Book) → built s 64 15360 ≡ x → Ran Refused
       by_result (refused c v) e = refuses s c v e
-      by_result (ok b) e = absurd (true≢false (sym (p.accepted ∙ ap is_ok e) ∙ f))
+      by_result (ok b) e = absurd (none-some _ (sym f ∙ p.tables ∙ ap (tables_of h m) e))
 
-  pub ran_served : o.accepted ≡ true → {r : Stop} → Served (AnsweredByTrails (heads_in o.tables) (moves_in o.tables)) r → Ran r
-  ran_served f {r} t = by_result (built s 64 15360) refl
+  pub ran_served : {t : Tables} → o.tables ≡ Some t → {r : Stop} → Served (AnsweredByTrails (heads_in t) (moves_in t)) r → Ran r
+  ran_served f {r} u = by_result (built s 64 15360) refl
     where
       by_result : (x : Result Book) → built s 64 15360 ≡ x → Ran r
-      by_result (refused c v) e = absurd (true≢false (sym f ∙ p.accepted ∙ ap is_ok e))
-      by_result (ok b) e = opened s b b (building s 64 15360 b e) (by-book b e t)
+      by_result (refused c v) e = absurd (none-some _ (sym (p.tables ∙ ap (tables_of h m) e) ∙ f))
+      by_result (ok b) e = opened s b b (building s 64 15360 b e) (by-book f b e u)

@@ -39,15 +39,13 @@ pub fn run<R: Files + Input + Print>(rt: &R, path: &[u8]) -> Stop
     let mut line = [0u8; 72];
     let size = read_book(rt, path, &mut book);
     let opening = transcript_writer::open(&book[..size], &mut line);
-    let written = opening.written;
-    if rt.write_all(&line[..written]).is_err() {
+    if rt.write_all(&line[..opening.written]).is_err() {
         return Stop::Unwritten;
     }
-    if !opening.accepted {
-        return Stop::Refused;
+    match opening.tables {
+        Some(tables) => serve(rt, tables),
+        None => Stop::Refused,
     }
-    let tables = opening.tables;
-    serve(rt, tables)
 }
 
 // Reads the book's file to the front of the buffer; answers its length, or 0 where it cannot be opened, as where its name is no text. No book fills the

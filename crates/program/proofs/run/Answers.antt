@@ -1,5 +1,4 @@
 -- Each way to stop is one that the opening or the blocks promise.
-use Rattle.std.proofs.lemmas.Bool.{not-true, not-false}
 use Rattle.program.specs.Ran.Ran.{unwritten}
 use Rattle.program.specs.RanLaws.{ran_refused, ran_served}
 use Rattle.program.proofs.run.Goals as goal
@@ -7,8 +6,8 @@ use Rattle.program.proofs.run.Goals as goal
 pub returns-then-is_err : goal.returns-then-is_err
 returns-then-is_err g c = unwritten
 
-pub returns-then-not-opening : goal.returns-then-not-opening
-returns-then-not-opening g c = ran_refused c.open-opening.ensures (not-true _ c.if-not-opening.true)
+pub returns-in-None : goal.returns-in-None
+returns-in-None g c = ran_refused c.open-opening.ensures c.in-None.is
 
-pub returns : goal.returns
-returns g c = ran_served c.open-opening.ensures (not-false _ c.if-not-opening.false) c.serve.ensures
+pub returns-in-Some : goal.returns-in-Some
+returns-in-Some g c = ran_served c.open-opening.ensures c.in-Some.is c.serve.ensures
