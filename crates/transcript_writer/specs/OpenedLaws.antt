@@ -12,10 +12,6 @@ use Rattle.transcript_writer.specs.declared.opening.Tables.{Tables}
 use Rattle.transcript_writer.specs.declared.opening.Opening.{Opening}
 use Rattle.transcript_writer.specs.Opened.{heads_in, moves_in, Opens}
 
--- what a report says of each outcome
-pub reported_as : (o v : Outcome Counts BuildRefusal) {r : Report} → o ≡ v → r ≡ reported (says v) → r ≡ reported (says o)
-reported_as o v e f = f ∙ ap (λ (x : Outcome Counts BuildRefusal). reported (says x)) (sym e)
-
 -- the numbers that count are the tables of the book
 module _ {s h m line line' : List ℕ} {r : Opening} (o : Opens s h m line line' r) {t : Tables} (f : r.tables ≡ Some t) (b : Book)
     (e : built s 64 15360 ≡ ok b) where
