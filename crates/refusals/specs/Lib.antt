@@ -3,3 +3,4 @@ pub mod BuildRefusals
 pub mod QueryRefusals
 pub mod BookQueryRefusals
 pub mod Said
+pub mod Check
