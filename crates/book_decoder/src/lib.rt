@@ -9,29 +9,30 @@ ghost use Rattle.book_format.specs.Format.{rules_from, named};
 ghost use Rattle.book_format.specs.Format.{decode as decode_of};
 ghost use Rattle.book_decoder.specs.Verdict.{header_of, says};
 ghost use Rattle.book_cursor.specs.Cursor.{entry_rule};
+ghost use Rattle.refusals.specs.Check.{check};
 
 use book_cursor::{Cursor, Entry};
 pub use book_header::Header;
 use book_header::{marked, ranged, sized, versioned};
-use refusals::BookRefusal;
+use refusals::{BookRefusal, Check};
 
 // Causes 1 to 6, in one pass.
 pub fn decode(book: &[u8]) -> Result<Header, BookRefusal>
     ensures { says result ≡ map_result header_of (decode_of book.now) }
 {
-    if !sized(book, 2568) {
+    let Check::Passed = sized(book, 2568) else {
         return Err(BookRefusal::Size);
-    }
-    if !marked(book) {
+    };
+    let Check::Passed = marked(book) else {
         return Err(BookRefusal::Mark);
-    }
-    if !versioned(book, 1) {
+    };
+    let Check::Passed = versioned(book, 1) else {
         return Err(BookRefusal::Version);
-    }
+    };
     let header = book_header::declared(book);
-    if !ranged(header) {
+    let Check::Passed = ranged(header) else {
         return Err(BookRefusal::Range);
-    }
+    };
     decode_rules(book, header)
 }
 
@@ -45,25 +46,35 @@ fn decode_rules(book: &[u8], header: Header) -> Result<Header, BookRefusal>
         let Some((entry, next)) = cursor.step(book) else {
             return Err(BookRefusal::Malformed(number));
         };
-        if !declared(book, entry, header.names) {
+        let Check::Passed = declared(book, entry, header.names) else {
             return Err(BookRefusal::Undeclared(number));
-        }
+        };
         cursor = next;
     }
-    if cursor.at < book.len() {
+    let Check::Passed = ended(book, cursor) else {
         return Err(BookRefusal::Malformed(header.rules));
-    }
+    };
     Ok(header)
 }
 
-// Whether the book declares the names of all of the rule's roles.
-fn declared(book: &[u8], rule: Entry, names: usize) -> bool
+// Passed where the book declares the names of all of the rule's roles.
+fn declared(book: &[u8], rule: Entry, names: usize) -> Check
     requires names_bound { names ≤ 64 }
     requires size_in_bounds { rule.start + rule.size ≤ length book.now }
-    ensures { result ≡ named names (rule.right ∷ (entry_rule book.now rule).left) }
+    ensures { result ≡ check (named names (rule.right ∷ (entry_rule book.now rule).left)) }
 {
+    if 2 * names <= rule.right as usize {
+        return Check::Failed;
+    }
     let left = &book[rule.start..rule.start + rule.size];
-    (rule.right as usize) < 2 * names && all_below(left, 2 * names)
+    Check::from(all_below(left, 2 * names))
+}
+
+// Passed where no bytes stand after the last rule, which ends at the cursor.
+fn ended(book: &[u8], cursor: Cursor) -> Check
+    ensures { result ≡ check (leb (length book.now) cursor.at) }
+{
+    Check::from(book.len() <= cursor.at)
 }
 
 // Whether all of some bytes are below a number.

@@ -1,32 +1,39 @@
--- `decode` meets its contract: each check settles one test of the definition.
-use Rattle.std.specs.Prelude.{[], drop}
-use Rattle.std.proofs.Common.{sym, ap, ◌∙◌}
+-- `decode` meets its contract: each check's answer settles one test of the definition.
+use mathlib.Core.List.{[]}
+use mathlib.Core.Path.{sym, ap, ◌∙◌}
+use borrow.Author.Rules.{rules}
+use lib.ListN.{drop}
 use Rattle.book_decoder.specs.Verdict.{header_of}
+use Rattle.refusals.specs.Check.{check-passed, check_failed}
 use Rattle.book_format.specs.Format.{rules_from, counts_fit}
 use Rattle.book_format.specs.DecodeLaws.{decode-size, decode-mark, decode_version, decode-counts, decode-all}
 use Rattle.base.specs.Result.{map_result}
 use Rattle.book_header.specs.declared.Header.{Header}
 use Rattle.book_decoder.proofs.decode.Goals as goal
 
-pub returns-then-not-sized : goal.returns-then-not-sized
-returns-then-not-sized c = sym (ap (map_result header_of) (decode-size _ (sym (c.if-not-sized.ensures))))
+pub returns-in_default : goal.returns-in_default
+returns-in_default c = sym (ap (map_result header_of) (decode-size _ (check_failed _ _ c.sized.ensures c.in_default.is)))
 
-pub returns-then-not-marked : goal.returns-then-not-marked
-returns-then-not-marked c =
-    sym (ap (map_result header_of) (decode-mark _ (sym (c.if-not-sized.ensures)) (sym (c.if-not-marked.ensures))))
+pub returns-in_default-marked : goal.returns-in_default-marked
+returns-in_default-marked c =
+    sym (ap (map_result header_of) (decode-mark _ (check-passed _ _ c.sized.ensures c.in-Passed.is) (check_failed _ _ c.marked.ensures c.in_default-marked.is)))
 
-pub returns-then-not-versioned : goal.returns-then-not-versioned
-returns-then-not-versioned c =
+pub returns-in_default-versioned : goal.returns-in_default-versioned
+returns-in_default-versioned c =
     sym
     (ap (map_result header_of)
-    (decode_version _ (sym (c.if-not-sized.ensures)) (sym (c.if-not-marked.ensures)) (sym (c.if-not-versioned.ensures))))
+    (decode_version _ (check-passed _ _ c.sized.ensures c.in-Passed.is)
+    (check-passed _ _ c.marked.ensures c.in-Passed-marked.is) (check_failed _ _ c.versioned.ensures c.in_default-versioned.is)))
 
-pub returns-then-not-ranged : goal.returns-then-not-ranged
-returns-then-not-ranged c =
+pub returns-in_default-ranged : goal.returns-in_default-ranged
+returns-in_default-ranged c =
     sym
     (ap (map_result header_of)
-    (decode-counts _ (sym (c.if-not-sized.ensures)) (sym (c.if-not-marked.ensures)) (sym (c.if-not-versioned.ensures))
-    (sym (ap (λ (h : Header). counts_fit h.names h.rules) c.declared-header.ensures) ∙ sym (c.if-not-ranged.ensures))))
+    (decode-counts _ (check-passed _ _ c.sized.ensures c.in-Passed.is)
+    (check-passed _ _ c.marked.ensures c.in-Passed-marked.is)
+    (check-passed _ _ c.versioned.ensures c.in-Passed-versioned.is)
+    (sym (ap (λ (h : Header). counts_fit h.names h.rules) c.declared-header.ensures)
+    ∙ check_failed _ _ c.ranged.ensures c.in_default-ranged.is)))
 
 pub returns : goal.returns
 returns c =
@@ -35,5 +42,7 @@ returns c =
     ∙ ap (λ (h : Header). map_result header_of (rules_from h.names [] h.rules (drop 8 c.args.book.now))) says
     ∙ sym
     (ap (map_result header_of)
-    (decode-all _ (sym (c.if-not-sized.ensures)) (sym (c.if-not-marked.ensures)) (sym (c.if-not-versioned.ensures))
-    (sym (ap (λ (h : Header). counts_fit h.names h.rules) says) ∙ sym (c.if-not-ranged.ensures))))
+    (decode-all _ (check-passed _ _ c.sized.ensures c.in-Passed.is)
+    (check-passed _ _ c.marked.ensures c.in-Passed-marked.is)
+    (check-passed _ _ c.versioned.ensures c.in-Passed-versioned.is)
+    (sym (ap (λ (h : Header). counts_fit h.names h.rules) says) ∙ check-passed _ _ c.ranged.ensures c.in-Passed-ranged.is)))
