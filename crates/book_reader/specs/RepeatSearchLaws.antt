@@ -1,6 +1,6 @@
 -- Cause 7 by keys: a rule repeats an earlier one exactly where its key is one of the earlier keys; the search for the lowest repeat, rule by rule as a
 -- loop runs it, or by the lowest over all names.
-use Rattle.std.specs.Prelude.{Bool, true, false, ◌||◌, List, [], ◌⊎◌, ◌≡◌, length, get_or, set, Some, None}
+use Rattle.std.specs.Prelude.{Bool, true, false, ◌||◌, List, [], ◌⊎◌, ◌≡◌, length, get_or, set, Ok, Err}
 use Rattle.std.proofs.Common.{inl, inr, sym, ap, ◌∙◌, add-one, arith, get_or-set_same, get_or-set_other}
 use Rattle.std.proofs.Math.Path.{refl}
 use Prim.Native.Nat.{ℕ, zero, suc, ◌+◌, ◌%◌, ◌<◌, ◌≤◌}
@@ -17,6 +17,7 @@ use Rattle.rule_keys.specs.KeyLaws.{same_key, key-name}
 use Rattle.book_header.specs.declared.Header.{Header}
 use Rattle.book_decoder.specs.Verdict.{header_of}
 use Rattle.book_decoder.specs.VerdictLaws.{Headed}
+use Rattle.refusals.specs.declared.book.BookRefusal.TheVariants.{Repeated}
 use Rattle.book_reader.specs.Judged.{judged}
 use Rattle.book_reader.specs.Entered.{Entered, among}
 use Rattle.book_reader.specs.Lowest.{repeated, Lowest}
@@ -44,10 +45,10 @@ module _ (s keys : List ℕ) where
 
 -- what the lowest repeat makes of the book
 module _ {s : List ℕ} {h : Header} (reading : Headed s h) where
-  judged-found : {k : ℕ} → k < h.rules → distinct h.names [] (first_rules s h.rules) ≡ refused 7 k → judged h (Some k) ≡ map_result header_of (read s)
+  judged-found : {k : ℕ} → k < h.rules → distinct h.names [] (first_rules s h.rules) ≡ refused 7 k → judged h (Err (Repeated k)) ≡ map_result header_of (read s)
   judged-found {k} l e = sym (ap (map_result header_of) (reading.reads ∙ e))
 
-  pub judged-none : {k : ℕ} → k ≡ h.rules → Searching s h.names h.rules k → judged h None ≡ map_result header_of (read s)
+  pub judged-none : {k : ℕ} → k ≡ h.rules → Searching s h.names h.rules k → judged h (Ok tt) ≡ map_result header_of (read s)
   judged-none {k} e searching = sym (ap (map_result header_of) (reading.reads ∙ searching_end e searching) ∙ rw length-first_rules refl)
 
 -- the rules before rule k have been met, and their keys are in lists
@@ -72,7 +73,7 @@ module _ {s : List ℕ} {h : Header} (reading : Headed s h) (bounds : Bounded s 
 
     -- rule by rule: the search has come to rule k, for any number of names
     module _ (searching : (n : ℕ) → Searching s n h.rules k) where
-      pub rule-repeats : among keys k x ≡ true → judged h (Some k) ≡ map_result header_of (read s)
+      pub rule-repeats : among keys k x ≡ true → judged h (Err (Repeated k)) ≡ map_result header_of (read s)
       rule-repeats t =
           judged-found reading inside
           (searching_found refl inside (searching h.names) (sym (repeated-rule keys inside so_far.keyed own) ∙ t))
@@ -95,8 +96,8 @@ module _ {s : List ℕ} {h : Header} (reading : Headed s h) (bounds : Bounded s 
         rw (← add-one k)
         (searching_next refl p (searched k (omega arith)) (sym (of_rule k p) ∙ search.none k l (named-key k p)))
 
-    pub lowest-judged : lowest < h.rules → judged h (Some lowest) ≡ map_result header_of (read s)
+    pub lowest-judged : lowest < h.rules → judged h (Err (Repeated lowest)) ≡ map_result header_of (read s)
     lowest-judged l = judged-found reading l (searching_found refl l (searched lowest (omega arith)) (sym (of_rule lowest l) ∙ search.found l))
 
-    pub none-judged : h.rules ≤ lowest → judged h None ≡ map_result header_of (read s)
+    pub none-judged : h.rules ≤ lowest → judged h (Ok tt) ≡ map_result header_of (read s)
     none-judged l = judged-none reading (let e : lowest ≡ h.rules = omega (arith, search.low) in e) (searched lowest (omega arith))

@@ -10,9 +10,10 @@ use crate::key_lists::{enter, fresh};
 use crate::keyed_rule::keyed_rule;
 use book_cursor::Cursor;
 use book_decoder::Header;
+use refusals::{BookRefusal, Check};
 
-// The lowest rule that repeats one before it, if there is one, for a book that passes causes 1 to 6.
-pub(crate) fn lowest_repeat(book: &[u8], header: Header) -> Option<usize>
+// Refuses a book, of those that pass causes 1 to 6, by the lowest rule that repeats one before it.
+pub(crate) fn distinct(book: &[u8], header: Header) -> Result<(), BookRefusal>
     requires { map_result header_of (decode_of book.now) ≡ ok header }
     ensures { judged header result ≡ map_result header_of (read_of book.now) }
 {
@@ -24,11 +25,11 @@ pub(crate) fn lowest_repeat(book: &[u8], header: Header) -> Option<usize>
         let own = keyed.key;
         let list = (own % 251) as usize;
         let last = index[list] as usize;
-        if !fresh(&keys, &index, 251, last, own) {
-            return Some(later);
-        }
+        let Check::Passed = fresh(&keys, &index, 251, last, own) else {
+            return Err(BookRefusal::Repeated(later));
+        };
         enter(&mut keys, &mut index, 251, list, own, later);
         cursor = keyed.next;
     }
-    None
+    Ok(())
 }

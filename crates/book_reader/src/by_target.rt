@@ -1,6 +1,7 @@
 // Cause 7 of document 01, relation by relation: only rules whose right roles share a name are compared. The rules of each name are in a list,
 // since the remainder of a rule's key by 64 is the name of its right role.
-ghost use Rattle.std.specs.Prelude.{◌≡◌, ◌≤◌};
+ghost use Rattle.refusals.specs.Check.{check};
+ghost use Rattle.std.specs.Prelude.{not, ltb, ◌≡◌, ◌≤◌};
 ghost use Rattle.base.specs.Result.{map_result};
 ghost use Rattle.base.specs.Result.Result.{ok};
 ghost use Rattle.book_format.specs.Format.{decode as decode_of, read as read_of};
@@ -14,10 +15,11 @@ use crate::keyed_rule::keyed_rule;
 use crate::relation::narrowed;
 use book_cursor::Cursor;
 use book_decoder::Header;
+use refusals::{BookRefusal, Check};
 use role_bytes::name;
 
-// The lowest rule that repeats one before it, if there is one, for a book that passes causes 1 to 6.
-pub(crate) fn lowest_repeat(book: &[u8], header: Header) -> Option<usize>
+// Refuses a book, of those that pass causes 1 to 6, by the lowest rule that repeats one before it.
+pub(crate) fn distinct(book: &[u8], header: Header) -> Result<(), BookRefusal>
     requires { map_result header_of (decode_of book.now) ≡ ok header }
     ensures { judged header result ≡ map_result header_of (read_of book.now) }
 {
@@ -34,14 +36,20 @@ pub(crate) fn lowest_repeat(book: &[u8], header: Header) -> Option<usize>
         cursor = keyed.next;
     }
     let lowest = over_names(&keys, &targets, &sizes, header);
-    if lowest < header.rules {
-        Some(lowest)
-    } else {
-        None
-    }
+    let Check::Passed = no_rule(header, lowest) else {
+        return Err(BookRefusal::Repeated(lowest));
+    };
+    Ok(())
 }
 
-// The same, from the keys in lists by name: the least over all relations, or the number of rules where there is none.
+// Passed where the number is that of no rule.
+fn no_rule(header: Header, number: usize) -> Check
+    ensures { result ≡ check (not (ltb number header.rules)) }
+{
+    Check::from(header.rules <= number)
+}
+
+// The lowest rule that repeats one before it, or the number of rules where none does, from the keys in lists by name: the least over all relations.
 fn over_names(keys: &[u64], targets: &[u16], sizes: &[u16], header: Header) -> usize
     requires entered { Entered 64 keys.now targets.now header.rules }
     requires names_bound { header.names ≤ 64 }

@@ -2,14 +2,17 @@
 // key's place, or 0 for none; at x stands the last key with the remainder x, and behind these, for each key, the last one before it with the same remainder.
 ghost use Rattle.std.specs.Prelude.{not, ◌≡◌, ◌+◌, ◌%◌, ◌<◌, get_or, set};
 ghost use Rattle.linked_lists.specs.LinkedLists.{Latest};
+ghost use Rattle.refusals.specs.Check.{check};
 ghost use Rattle.book_reader.specs.Entered.{Entered, Listed, among};
 
-// Whether the key is none of those before the entry `last` of its list.
-pub(crate) fn fresh(keys: &[u64], index: &[u16], lists: usize, last: usize, key: u64) -> bool
+use refusals::Check;
+
+// Passed where the key is none of those before the entry `last` of its list.
+pub(crate) fn fresh(keys: &[u64], index: &[u16], lists: usize, last: usize, key: u64) -> Check
     requires { Listed lists keys.now index.now last key }
-    ensures { result ≡ not (among keys.now last key) }
+    ensures { result ≡ check (not (among keys.now last key)) }
 {
-    find(keys, index, lists, last, key) == 0
+    Check::from(find(keys, index, lists, last, key) == 0)
 }
 
 // The entry for the last key before `last` that is this one, or 0.

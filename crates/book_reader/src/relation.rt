@@ -3,6 +3,7 @@ ghost use Rattle.std.specs.Prelude.{◌<◌, ◌≤◌, length};
 ghost use Rattle.book_reader.specs.Lowest.{Gathered, Narrowed, Lowered};
 
 use crate::key_lists::{enter, find, fresh};
+use refusals::Check;
 
 // The least of `lowest` and the relation's rules that repeat one before them. A long list is split by the remainders of the keys.
 pub(crate) fn narrowed(
@@ -34,8 +35,10 @@ fn few(keys: &[u64], targets: &[u16], name: usize, lowest: usize) -> usize
     while 0 < at {
         let rule = at - 1;
         at = targets[64 + rule] as usize;
-        if rule < least && !fresh(keys, targets, 64, at, keys[rule]) {
-            least = rule;
+        if rule < least {
+            if let Check::Failed = fresh(keys, targets, 64, at, keys[rule]) {
+                least = rule;
+            }
         }
     }
     least

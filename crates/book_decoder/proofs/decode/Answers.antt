@@ -1,7 +1,6 @@
 -- `decode` meets its contract: each check's answer settles one test of the definition.
 use mathlib.Core.List.{[]}
 use mathlib.Core.Path.{sym, ap, ◌∙◌}
-use borrow.Author.Rules.{rules}
 use lib.ListN.{drop}
 use Rattle.book_decoder.specs.Verdict.{header_of}
 use Rattle.refusals.specs.Check.{check-passed, check_failed}

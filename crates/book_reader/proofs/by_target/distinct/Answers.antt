@@ -2,6 +2,8 @@ use mathlib.Core.Path.{◌≡◌}
 use Prim.Native.Nat.{◌<◌}
 use native.Mathlib.Omega.{arith}
 use Rattle.roles.specs.Role.{name}
+use borrow.Author.Tests.{not-true, not-false, ltb-true, ltb-false}
+use Rattle.refusals.specs.Check.{check-passed, check_failed}
 use Rattle.book_decoder.specs.VerdictLaws.{headed}
 use Rattle.book_format.specs.Place.{rule_place}
 use Rattle.book_reader.specs.EnteredLaws.{entered-none}
@@ -9,8 +11,8 @@ use Rattle.book_reader.specs.LowestLaws.{sized_start, sized_next}
 use Rattle.book_reader.specs.ShortLaws.{bounded}
 use Rattle.book_reader.specs.KeyedAtLaws.{turn-whole, turn-short, turn-key, turn-next, turn_target, turn-name}
 use Rattle.book_reader.specs.RepeatSearchLaws.{Met, met_next, lowest-judged, none-judged}
-use Rattle.book_reader.proofs.by_target.lowest_repeat.Goals as goal
-use Rattle.book_reader.proofs.by_target.lowest_repeat.Goals.{After-keyed_rule-keyed, After-loop-rule}
+use Rattle.book_reader.proofs.by_target.distinct.Goals as goal
+use Rattle.book_reader.proofs.by_target.distinct.Goals.{After-keyed_rule-keyed, After-loop-rule}
 
 pub loop-rule-init : goal.loop-rule-init
 unfolding rule_place
@@ -61,11 +63,11 @@ over_names-lowest-requires-clause-names_bound c =
 all_met : (c : After-loop-rule) → Met 64 c.args.book.now c.loop-rule.keys c.loop-rule.targets c.args.header.rules
 all_met c = let e : c.loop-rule.rule ≡ c.args.header.rules = omega arith in rw e at c.loop-rule.invariant.1.0
 
-pub returns-then-lowest-header : goal.returns-then-lowest-header
-returns-then-lowest-header c = lowest-judged (headed c.requires) (bounded c.requires) (all_met (goal.at.returns-then-lowest-header c).After-loop-rule).keyed c.over_names-lowest.ensures (omega arith)
+pub returns-in_default : goal.returns-in_default
+returns-in_default c = lowest-judged (headed c.requires) (bounded c.requires) (all_met (goal.at.returns-in_default c).After-loop-rule).keyed c.over_names-lowest.ensures (ltb-true _ _ (not-false _ (check_failed _ _ c.no_rule.ensures c.in_default.is)))
 
-pub returns-else-lowest-header : goal.returns-else-lowest-header
-returns-else-lowest-header c = none-judged (headed c.requires) (bounded c.requires) (all_met (goal.at.returns-else-lowest-header c).After-loop-rule).keyed c.over_names-lowest.ensures (omega arith)
+pub returns : goal.returns
+returns c = none-judged (headed c.requires) (bounded c.requires) (all_met (goal.at.returns c).After-loop-rule).keyed c.over_names-lowest.ensures (ltb-false _ _ (not-true _ (check-passed _ _ c.no_rule.ensures c.in-Passed.is)))
 
 pub bounds-sizes-target : goal.bounds-sizes-target
 bounds-sizes-target c = omega (arith, named (goal.at.bounds-sizes-target c).After-keyed_rule-keyed)

@@ -1,6 +1,7 @@
-use mathlib.Core.Path.{◌≡◌, refl, sym, ◌∙◌}
+use mathlib.Core.Path.{◌≡◌, refl, ◌∙◌}
 use native.Mathlib.Omega.{arith}
 use borrow.Author.Tests.{not-true, not-false}
+use Rattle.refusals.specs.Check.{check-passed, check_failed}
 use Rattle.book_decoder.specs.VerdictLaws.{headed}
 use Rattle.book_format.specs.Place.{rule_place}
 use Rattle.book_format.specs.RepeatLaws.{searching_start}
@@ -8,7 +9,7 @@ use Rattle.book_reader.specs.EnteredLaws.{entered-none, last-among}
 use Rattle.book_reader.specs.ShortLaws.{bounded}
 use Rattle.book_reader.specs.KeyedAtLaws.{turn-whole, turn-short, turn-key, turn-next}
 use Rattle.book_reader.specs.RepeatSearchLaws.{judged-none, met_next, rule-repeats, rule_passes}
-use Rattle.book_reader.proofs.by_rule.lowest_repeat.Goals as goal
+use Rattle.book_reader.proofs.by_rule.distinct.Goals as goal
 
 pub loop-later-init : goal.loop-later-init
 unfolding rule_place
@@ -26,14 +27,14 @@ keyed_rule-keyed-requires-clause-short c =
     let bounds = bounded c.requires in
     let place = c.loop-later.invariant.0 in turn-short reading bounds place c.loop-later-test.true
 
-pub returns-then-not-fresh : goal.returns-then-not-fresh
-returns-then-not-fresh c =
+pub returns-in_default : goal.returns-in_default
+returns-in_default c =
     let reading = headed c.requires in
     let bounds = bounded c.requires in
     let met = c.loop-later.invariant.1.1 in
     let inside = c.loop-later-test.true in
     rule-repeats reading bounds met inside (turn-key reading bounds c.loop-later.invariant.0 inside c.keyed_rule-keyed.ensures) c.loop-later.invariant.1.0
-    (last-among met.entered c.keyed_rule-keyed.result.key _ refl (omega arith) ∙ not-false _ (sym c.if-not-fresh.ensures))
+    (last-among met.entered c.keyed_rule-keyed.result.key _ refl (omega arith) ∙ not-false _ (check_failed _ _ c.fresh.ensures c.in_default.is))
 
 pub enter-requires-clause-count_bound : goal.enter-requires-clause-count_bound
 enter-requires-clause-count_bound c = omega (arith, (bounded c.requires).few)
@@ -48,7 +49,7 @@ loop-later-preserved c =
       turn-next reading bounds c.loop-later.invariant.0 inside c.keyed_rule-keyed.ensures,
       (
         rule_passes reading bounds met inside own c.loop-later.invariant.1.0
-            (last-among met.entered c.keyed_rule-keyed.result.key _ refl (omega arith) ∙ not-true _ (sym c.if-not-fresh.ensures)),
+            (last-among met.entered c.keyed_rule-keyed.result.key _ refl (omega arith) ∙ not-true _ (check-passed _ _ c.fresh.ensures c.in-Passed.is)),
         met_next reading bounds met inside own c.enter.ensures.keys c.enter.ensures.lists,
       ),
     )
