@@ -1,7 +1,7 @@
 // Checks a written derivation: whether its steps lead from a role to a chain by the rules of a book.
 #![tactic(auto)]
 
-ghost use Rattle.std.specs.Prelude.{◌≡◌, ◌*◌, length};
+ghost use Rattle.std.specs.Prelude.{◌≡◌, ◌*◌, ◌≤◌};
 ghost use Rattle.derivation_steps.specs.WrittenSteps.{checked};
 ghost use Rattle.book_questions.specs.RuleTable.{Rules, rule_in};
 ghost use Rattle.book_questions.specs.Admission.{answers};
@@ -23,26 +23,26 @@ pub fn check(book: &[u8], role: u8, chain: &[u8], steps: &[u8]) -> Result<bool, 
     ensures { answers result ≡ checked_derivation book.now role chain.now steps.now }
 {
     if word(book, 6) <= 16 {
-        let mut table = [0u8; 512]; // less to clear
-        return check_in(book, role, chain, steps, &mut table);
+        check_in::<512>(book, role, chain, steps) // less to clear
+    } else {
+        check_in::<8192>(book, role, chain, steps)
     }
-    let mut table = [0u8; 8192];
-    check_in(book, role, chain, steps, &mut table)
 }
 
-// The same with a table that has room for the completed rules of the book.
-fn check_in(
+// The same with so much room for the completed rules of the book.
+fn check_in<const TABLE: usize>(
     book: &[u8],
     role: u8,
     chain: &[u8],
     steps: &[u8],
-    table: &mut [u8],
 ) -> Result<bool, BookQueryRefusal>
-    requires { Roomy book.now role chain.now (length table.old) }
+    requires room { Roomy book.now role chain.now TABLE }
+    requires most { TABLE ≤ 8192 }
     ensures { answers result ≡ checked_derivation book.now role chain.now steps.now }
 {
-    let header = admit(book, role, chain, table)?;
-    follow(table, header, role, chain, steps)
+    let mut table = [0u8; TABLE];
+    let header = admit(book, role, chain, &mut table)?;
+    follow(&table, header, role, chain, steps)
 }
 
 // Whether the steps lead from the role to the chain by the rules of a table, of a book with such a header.

@@ -2,9 +2,10 @@
 // the question.
 #![tactic(auto)]
 
-ghost use Rattle.std.specs.Prelude.{◌+◌};
+ghost use Rattle.std.specs.Prelude.{◌+◌, ◌*◌, ◌<◌, ◌≤◌, MatchOption};
 ghost use Rattle.query_causes.specs.Query.{asked, Answered};
 ghost use Rattle.base.specs.Reflects.{Reflects};
+ghost use Rattle.query_simulation.specs.Transitions.{transition_count, Fit};
 ghost use Rattle.query_simulation.specs.Reading.{Leads, Askable};
 ghost use Rattle.query_parts.specs.Answer.{says};
 
@@ -34,20 +35,31 @@ fn accepts(moves: &[u16], role: u8, chain: &[u8], head: usize) -> bool
     requires { Askable moves.now head chain.now }
     ensures { Reflects result (Leads moves.now head (asked role chain.now) (head + 1)) }
 {
-    if head < 63 && moves.len() <= 576 {
-        let mut space = [0u16; 512];
-        if fill(moves, 64, &mut space) {
-            return run(moves, 64, role, chain, head, 1, &mut space);
-        }
+    if head < 63
+        && moves.len() <= 576
+        && let Some(accepted) = accepts_in::<64, 512>(moves, role, chain, head)
+    {
+        return accepted;
     }
-    accepts_many(moves, role, chain, head)
+    accepts_in::<2048, 15360>(moves, role, chain, head) == Some(true)
 }
 
-fn accepts_many(moves: &[u16], role: u8, chain: &[u8], head: usize) -> bool
-    requires { Askable moves.now head chain.now }
-    ensures { Reflects result (Leads moves.now head (asked role chain.now) (head + 1)) }
+// The same in a fresh array with room for so many states; nothing where a transition has a state that is not below the room.
+fn accepts_in<const ROOM: u16, const SPACE: usize>(
+    moves: &[u16],
+    role: u8,
+    chain: &[u8],
+    head: usize,
+) -> Option<bool>
+    requires askable { Askable moves.now head chain.now }
+    requires sizes { (ROOM ≤ 2048) × (SPACE ≤ 15360) × (5 * ROOM + transition_count moves.now ≤ SPACE) }
+    requires inside { head + 1 < ROOM }
+    ensures { MatchOption result (Fit ROOM moves.now → ⊥)
+        (λ accepted. Reflects accepted (Leads moves.now head (asked role chain.now) (head + 1))) }
 {
-    let mut space = [0u16; 15360];
-    fill(moves, 2048, &mut space);
-    run(moves, 2048, role, chain, head, 1, &mut space)
+    let mut space = [0u16; SPACE];
+    if !fill(moves, ROOM, &mut space) {
+        return None;
+    }
+    Some(run(moves, ROOM as usize, role, chain, head, 1, &mut space))
 }
