@@ -2,16 +2,21 @@
 ghost use Rattle.std.specs.Prelude.{◌∷◌, ◌≡◌};
 ghost use Rattle.book_format.specs.Format.{named};
 ghost use Rattle.query_causes.specs.Query.{transitions_in, heads_fit, transitions_fit, tables_fit, chain_fits};
+ghost use Rattle.refusals.specs.Check.{check};
+
+use refusals::Check;
 
 // Cause 12: the tables.
-pub(crate) fn tables_fit(heads: &[u16], moves: &[u16]) -> bool
-    ensures { result ≡ tables_fit heads.now moves.now }
+pub(crate) fn tables_fit(heads: &[u16], moves: &[u16]) -> Check
+    ensures { result ≡ check (tables_fit heads.now moves.now) }
 {
-    (1..=64).contains(&heads.len())
-        && heads_fit(heads)
-        && moves.len() % 3 == 0
-        && moves.len() <= 15360
-        && transitions_fit(moves)
+    Check::from(
+        (1..=64).contains(&heads.len())
+            && heads_fit(heads)
+            && moves.len() % 3 == 0
+            && moves.len() <= 15360
+            && transitions_fit(moves),
+    )
 }
 
 // Whether each initial state is at most 2,046.
@@ -31,16 +36,16 @@ fn transitions_fit(moves: &[u16]) -> bool
 }
 
 // Cause 13: 1 to 1,024 links.
-pub(crate) fn chain_fits(chain: &[u8]) -> bool
-    ensures { result ≡ chain_fits chain.now }
+pub(crate) fn chain_fits(chain: &[u8]) -> Check
+    ensures { result ≡ check (chain_fits chain.now) }
 {
-    (1..=1024).contains(&chain.len())
+    Check::from((1..=1024).contains(&chain.len()))
 }
 
 // Cause 14: the role and each link of the chain have a name below `names`.
-pub(crate) fn roles_fit(names: u8, role: u8, chain: &[u8]) -> bool
-    ensures { result ≡ named names (role ∷ chain.now) }
+pub(crate) fn roles_fit(names: u8, role: u8, chain: &[u8]) -> Check
+    ensures { result ≡ check (named names (role ∷ chain.now)) }
 {
     let end = 2 * names as usize;
-    (role as usize) < end && chain.iter().all(|link| (*link as usize) < end)
+    Check::from((role as usize) < end && chain.iter().all(|link| (*link as usize) < end))
 }

@@ -9,7 +9,7 @@ ghost use Rattle.query_checker.specs.QueryVerdict.{says};
 mod checks;
 
 use checks::{chain_fits, roles_fit, tables_fit};
-use refusals::QueryRefusal;
+use refusals::{Check, QueryRefusal};
 
 // Causes 12, 13 and 14, in this order. The value beside each of these causes is 0.
 pub fn check(heads: &[u16], moves: &[u16], role: u8, chain: &[u8]) -> Result<(), QueryRefusal>
@@ -23,12 +23,12 @@ pub fn check(heads: &[u16], moves: &[u16], role: u8, chain: &[u8]) -> Result<(),
 pub fn check_for(names: u8, role: u8, chain: &[u8]) -> Result<(), QueryRefusal>
     ensures { says result ≡ question names role chain.now }
 {
-    if !chain_fits(chain) {
+    let Check::Passed = chain_fits(chain) else {
         return Err(QueryRefusal::Chain);
-    }
-    if !roles_fit(names, role, chain) {
+    };
+    let Check::Passed = roles_fit(names, role, chain) else {
         return Err(QueryRefusal::Role);
-    }
+    };
     Ok(())
 }
 
@@ -36,9 +36,9 @@ pub fn check_for(names: u8, role: u8, chain: &[u8]) -> Result<(), QueryRefusal>
 pub fn names_in(heads: &[u16], moves: &[u16]) -> Option<u8>
     ensures { MatchOption result (names_in heads.now moves.now ≡ 0) (λ names. (names ≡ names_in heads.now moves.now) × (0 < names)) }
 {
-    if !tables_fit(heads, moves) {
+    let Check::Passed = tables_fit(heads, moves) else {
         return None;
-    }
+    };
     Some(heads.len() as u8)
 }
 
@@ -46,8 +46,8 @@ pub fn names_in(heads: &[u16], moves: &[u16]) -> Option<u8>
 pub fn check_named(names: u8, role: u8, chain: &[u8]) -> Result<(), QueryRefusal>
     ensures { says result ≡ query_for names role chain.now }
 {
-    if names == 0 {
+    let Check::Passed = Check::from(0 < names) else {
         return Err(QueryRefusal::Tables);
-    }
+    };
     check_for(names, role, chain)
 }
