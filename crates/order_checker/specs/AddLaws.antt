@@ -20,6 +20,7 @@ use Rattle.rule_shapes.specs.declared.Shape.TheVariants.{Symmetric, Row}
 use Rattle.rule_shapes.specs.declared.Shape.TheVariants.{Transitive as Transitive-rule}
 use Rattle.rule_shapes.specs.FoundShape.{shape_found, shape_in, Within}
 use Rattle.rule_shapes.specs.FoundShapeLaws.{found-shape, found_within}
+use Rattle.refusals.specs.declared.check.Check.TheVariants.{Passed, Failed}
 use Rattle.order_checker.specs.Gather.{Transitive, Added}
 
 -- a mask holds what the inner roles of a rule reach, and a name below 64 is its right one
@@ -55,7 +56,7 @@ module _ (w : Chain) (r : ℕ) {sh : Shape} (d : sh ≡ shape_found w r) where
         record { reach = λ lower k y p. h lower k y p ∙ ap (λ (v : Chain). reaches lower v y) row-inner; right = o; small = s }
 
 -- what adding a rule answers, and the masks that it leaves: there are no inner roles
-pub added_none : {ρ : Rule} {masks : List ℕ} → inner_of (Order.shape ρ) ≡ [] → Added ρ masks true masks
+pub added_none : {ρ : Rule} {masks : List ℕ} → inner_of (Order.shape ρ) ≡ [] → Added ρ masks Passed masks
 unfolding reaches
 added_none {ρ} {masks} e =
     record {
@@ -73,7 +74,7 @@ module _ {ρ : Rule} {masks : List ℕ} {mask over : ℕ} (known : Reached ρ ma
   with_right : {new : List ℕ} (lower : ℕ → ℕ → Bool) → Holds new (with_inner lower over (inner_of (Order.shape ρ))) → Holds new (with_rule lower ρ)
   with_right {new} lower = subst (λ (x : ℕ). Holds new (with_inner lower x (inner_of (Order.shape ρ)))) known.right
 
-  pub added_clash : {new : List ℕ} → has mask over ≡ true → Added ρ masks false new
+  pub added_clash : {new : List ℕ} → has mask over ≡ true → Added ρ masks Failed new
   added_clash k =
       record {
         answer = λ lower t h. rw (tested h k) refl;
@@ -82,7 +83,7 @@ module _ {ρ : Rule} {masks : List ℕ} {mask over : ℕ} (known : Reached ρ ma
 
   pub added_extends : {new : List ℕ} → has mask over ≡ false
       → ((order : ℕ → ℕ → Bool) (v : Chain) → Holds masks order → ((y : ℕ) → y < 64 → has mask y ≡ reaches order v y) → Holds new (with_inner order over v))
-      → Added ρ masks true new
+      → Added ρ masks Passed new
   added_extends k absorbed =
       record {
         answer = λ lower t h. rw (tested h k) refl;
@@ -114,7 +115,7 @@ module _ {ρ : Rule} {masks : List ℕ} {mask over : ℕ} (known : Reached ρ ma
     still-holds : Holds masks (with_inner lower over (inner_of (Order.shape ρ)))
     still-holds = record { bits = λ x y p q. h.bits x y p q ∙ nothing-new x y q }
 
-  pub added-known : has mask over ≡ false → bit_or mask (get_or masks over 0) ≡ get_or masks over 0 → Added ρ masks true masks
+  pub added-known : has mask over ≡ false → bit_or mask (get_or masks over 0) ≡ get_or masks over 0 → Added ρ masks Passed masks
   added-known k seen =
       record {
         answer = λ lower t h. rw (tested h k) refl;

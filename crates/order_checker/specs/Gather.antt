@@ -13,6 +13,8 @@ use Rattle.book_causes.specs.Accepted.{levels_of, depth_of, count_or_none, writt
 use Rattle.book_header.specs.declared.Header.{Header}
 use Rattle.book_decoder.specs.Verdict.{header_of}
 use Rattle.refusals.specs.declared.book.BookRefusal.{BookRefusal}
+use Rattle.refusals.specs.declared.check.Check.{Check}
+use Rattle.refusals.specs.Check.{check}
 use Rattle.refusals.specs.Said.{said}
 use Rattle.refusals.specs.BookRefusals.{book_cause, book_value}
 use Rattle.order_checker.specs.declared.Ordering.{Ordering}
@@ -22,8 +24,8 @@ abbrev pub Transitive : (ℕ → ℕ → Bool) → Type 0
 Transitive lower = (x y z : ℕ) → lower x y ≡ true → lower y z ≡ true → lower x z ≡ true
 
 -- what adding a rule to masks answers, and the masks that it leaves: the order goes on unless the rule clashes with it
-pub record Added (ρ : Rule) (masks : List ℕ) (r : Bool) (new : List ℕ) : Type 0 where
-  pub answer : (lower : ℕ → ℕ → Bool) → Transitive lower → Holds masks lower → r ≡ not (clashes lower ρ)
+pub record Added (ρ : Rule) (masks : List ℕ) (r : Check) (new : List ℕ) : Type 0 where
+  pub answer : (lower : ℕ → ℕ → Bool) → Transitive lower → Holds masks lower → r ≡ check (not (clashes lower ρ))
   pub leaves : (lower : ℕ → ℕ → Bool) → Transitive lower → Holds masks lower → clashes lower ρ ≡ false → Holds new (with_rule lower ρ)
 
 -- where the book passes, the masks hold the order that its rules force

@@ -16,6 +16,9 @@ use Rattle.book_causes.specs.Ordered.{ordered}
 use Rattle.book_causes.specs.OrderedRun.{Gathering, gathering_start, gathering_next, gathering_clash, gathering_end, gathering_closed, ordered-from, ordered-read}
 use Rattle.book_header.specs.declared.Header.{Header}
 use Rattle.book_decoder.specs.Verdict.{header_of}
+use Rattle.refusals.specs.Check.{check-passed, check_failed}
+use Rattle.refusals.specs.declared.check.Check.{Check}
+use Rattle.refusals.specs.declared.check.Check.TheVariants.{Passed, Failed}
 use Rattle.order_checker.specs.Gather.{Added, GatheredOrder}
 
 -- the masks after k rules
@@ -62,26 +65,26 @@ module _ {s : List ℕ} {h : Header} (f : Formed s h) where
           let d = decoded s f.book (read-decode s f.book f.reads) in
           rw (e, ← names) (d.named k (rw (← d.count) (within f.book f.reads)))
 
-      module _ {masks new : List ℕ} {r : Bool} (a : Added ρ masks r new) (g : Gathers s masks k) where
-        pub gathers_next : r ≡ true → Gathers s new (k + 1)
+      module _ {masks new : List ℕ} {r : Check} (a : Added ρ masks r new) (g : Gathers s masks k) where
+        pub gathers_next : r ≡ Passed → Gathers s new (k + 1)
         gathers_next q = record { order = next }
           where
             next : (b : Book) → read s ≡ ok b → (lower : ℕ → ℕ → Bool) × Gathering b (k + 1) lower × Holds new lower
             next b i =
                 let l = g.order b i in
                 let t = l.1.closed.order.transitive in
-                let extends : clashes l.0 ρ ≡ false = not-true _ (sym (a.answer l.0 t l.2) ∙ q) in (
+                let extends : clashes l.0 ρ ≡ false = not-true _ (check-passed _ r (a.answer l.0 t l.2) q) in (
                   with_rule l.0 ρ,
                   gathering_next b k l.0 l.1 (within b i) ρ (read-rule s b i k (within b i) ρ e) (read_some s b i k (within b i) ρ e) extends,
                   a.leaves l.0 t l.2 extends,
                 )
 
-        pub gathers_clash : r ≡ false → refused 8 k ≡ map_result header_of (ordered s)
+        pub gathers_clash : r ≡ Failed → refused 8 k ≡ map_result header_of (ordered s)
         gathers_clash q =
             let b = f.book in
             let i = f.reads in
             let l = g.order b i in
-            let clash : clashes l.0 ρ ≡ true = not-false _ (sym (a.answer l.0 l.1.closed.order.transitive l.2) ∙ q) in
+            let clash : clashes l.0 ρ ≡ true = not-false _ (check_failed _ r (a.answer l.0 l.1.closed.order.transitive l.2) q) in
             rw (ordered-from s b i, gathering_clash b k l.0 l.1 (within b i) ρ (read-rule s b i k (within b i) ρ e) clash) refl
 
   pub gathers_end : {masks : List ℕ} {k : ℕ} → h.rules ≤ k → Gathers s masks k

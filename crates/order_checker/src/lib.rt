@@ -19,7 +19,7 @@ use book_decoder::Header;
 use masks::{absorb, reached};
 use name_sets::has;
 use order_levels::{Levels, levels_of};
-use refusals::BookRefusal;
+use refusals::{BookRefusal, Check};
 use rule_shapes::{Shape, shape_of};
 
 // What the order check finds of a book that passes causes 1 to 8: its header, the level of each name and the highest of them. The levels of names
@@ -62,33 +62,33 @@ fn gather(book: &[u8], header: Header, masks: &mut [u64]) -> Result<Header, Book
             return Ok(header); // not reached: the book is well-formed
         };
         let left = &book[entry.start..entry.start + entry.size];
-        if !add_rule(left, entry.right, masks) {
+        let Check::Passed = add_rule(left, entry.right, masks) else {
             return Err(BookRefusal::NoOrder(number));
-        }
+        };
         cursor = next;
     }
     Ok(header)
 }
 
-// Adds what a rule forces, unless it would put its right name below itself. Whether the order goes on.
-fn add_rule(left: &[u8], right: u8, masks: &mut [u64]) -> bool
+// Adds what a rule forces: passed where the order goes on, failed where the rule would put its right name below itself.
+fn add_rule(left: &[u8], right: u8, masks: &mut [u64]) -> Check
     requires left_value { named (length masks.old) (right ∷ left.now) ≡ true }
     requires masks_len_bound { length masks.old ≤ 64 }
     ensures { Added (record { left = left.entry.now; right = right }) masks.old result masks.new }
 {
     let Shape::Row(row) = shape_of(left, right) else {
-        return true;
+        return Check::Passed;
     };
     let inner = &left[row.start..row.start + row.size];
     let lower = reached(inner, masks);
     let over = role_bytes::name(right) as usize;
     if has(lower, over) {
-        return false;
+        return Check::Failed;
     }
     let below = masks[over];
     if lower | below == below {
-        return true; // nothing new: what is below the right name is below all names above it
+        return Check::Passed; // nothing new: what is below the right name is below all names above it
     }
     absorb(masks, over, lower);
-    true
+    Check::Passed
 }

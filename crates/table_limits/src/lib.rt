@@ -2,10 +2,11 @@
 #![tactic(auto)]
 
 ghost use Rattle.std.specs.Prelude.{◌&&◌, ◌≡◌, ◌*◌, leb};
+ghost use Rattle.refusals.specs.Check.{check};
 ghost use Rattle.table_limits.specs.Limits.{limited};
 
 use book_decoder::Header;
-use refusals::BuildRefusal;
+use refusals::{BuildRefusal, Check};
 
 // How many names, states and transitions the tables have, and the depth of the book: the numbers of the tables are the first `names` heads and
 // the first 3 `transitions` moves.
@@ -19,7 +20,6 @@ pub struct Counts {
 
 // Causes 9 to 11, in this order, of a book with so many states and transitions and of this depth, where so many heads and moves are lent: its
 // counts, or why it is refused.
-#[tactic(auto, unfolding(crate::specs::Limits::limited))]
 pub fn limit(
     header: Header,
     states: usize,
@@ -30,15 +30,15 @@ pub fn limit(
 ) -> Result<Counts, BuildRefusal>
     ensures { result ≡ limited header.names states transitions depth heads moves }
 {
-    if !few_states(states) {
+    let Check::Passed = few_states(states) else {
         return Err(BuildRefusal::States);
-    }
-    if !few_transitions(transitions) {
+    };
+    let Check::Passed = few_transitions(transitions) else {
         return Err(BuildRefusal::Transitions);
-    }
-    if !long_enough(header.names, transitions, heads, moves) {
+    };
+    let Check::Passed = long_enough(header.names, transitions, heads, moves) else {
         return Err(BuildRefusal::Short);
-    }
+    };
     Ok(Counts {
         names: header.names,
         states,
@@ -48,22 +48,22 @@ pub fn limit(
 }
 
 // Cause 9: at most 2,048 states.
-fn few_states(states: usize) -> bool
-    ensures { result ≡ leb states 2048 }
+fn few_states(states: usize) -> Check
+    ensures { result ≡ check (leb states 2048) }
 {
-    states <= 2048
+    Check::from(states <= 2048)
 }
 
 // Cause 10: at most 5,120 transitions.
-fn few_transitions(transitions: usize) -> bool
-    ensures { result ≡ leb transitions 5120 }
+fn few_transitions(transitions: usize) -> Check
+    ensures { result ≡ check (leb transitions 5120) }
 {
-    transitions <= 5120
+    Check::from(transitions <= 5120)
 }
 
 // Cause 11: so many heads and moves are lent as the names and transitions need, three moves for each transition.
-fn long_enough(names: usize, transitions: usize, heads: usize, moves: usize) -> bool
-    ensures { result ≡ (leb names heads && leb (3 * transitions) moves) }
+fn long_enough(names: usize, transitions: usize, heads: usize, moves: usize) -> Check
+    ensures { result ≡ check (leb names heads && leb (3 * transitions) moves) }
 {
-    names <= heads && transitions <= moves / 3
+    Check::from(names <= heads && transitions <= moves / 3)
 }

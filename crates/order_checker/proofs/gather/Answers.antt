@@ -1,4 +1,4 @@
-use mathlib.Core.Path.{refl, ◌∙◌}
+use mathlib.Core.Path.{◌∙◌}
 use native.Mathlib.Omega.{arith}
 use Rattle.book_format.specs.Place.{rule_place}
 use Rattle.order_checker.specs.GatherLaws.{gathers_start, formed, few_names, whole-rule, named_rule, gathers_next, gathers_clash, gathers_end}
@@ -34,8 +34,8 @@ pub add_rule-requires-clause-masks_len_bound : goal.add_rule-requires-clause-mas
 add_rule-requires-clause-masks_len_bound c =
     let f = formed c.requires.book_value in rw c.loop-number.invariant.1.0 (few_names f)
 
-pub returns-then-not-add_rule-clause-result_value : goal.returns-then-not-add_rule-clause-result_value
-returns-then-not-add_rule-clause-result_value c = gathers_clash (formed c.requires.book_value) c.loop-number-test.true (handed (goal.at.returns-then-not-add_rule-clause-result_value c).In-Some).part c.if-not-add_rule.ensures c.loop-number.invariant.1.1 refl
+pub returns-in_default-add_rule-clause-result_value : goal.returns-in_default-add_rule-clause-result_value
+returns-in_default-add_rule-clause-result_value c = gathers_clash (formed c.requires.book_value) c.loop-number-test.true (handed (goal.at.returns-in_default-add_rule-clause-result_value c).In-Some).part c.add_rule.ensures c.loop-number.invariant.1.1 c.in_default-add_rule.is
 
 pub loop-number-preserved : goal.loop-number-preserved
 loop-number-preserved c =
@@ -43,7 +43,7 @@ loop-number-preserved c =
       h.place,
       (
         c.add_rule.auto.masks ∙ c.loop-number.invariant.1.0,
-        gathers_next (formed c.requires.book_value) c.loop-number-test.true h.part c.if-not-add_rule.ensures c.loop-number.invariant.1.1 refl,
+        gathers_next (formed c.requires.book_value) c.loop-number-test.true h.part c.add_rule.ensures c.loop-number.invariant.1.1 c.in-Passed.is,
       ),
     )
 
