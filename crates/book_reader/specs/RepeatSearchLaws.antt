@@ -1,13 +1,13 @@
 -- Cause 7 by keys: a rule repeats an earlier one exactly where its key is one of the earlier keys; the search for the lowest repeat, rule by rule as a
 -- loop runs it, or by the lowest over all names.
-use Rattle.std.specs.Prelude.{Bool, true, false, ◌||◌, List, [], ◌⊎◌, ◌≡◌, length, get_or, set, Ok, Err}
-use Rattle.std.proofs.Common.{inl, inr, sym, ap, ◌∙◌, add-one, arith, get_or-set_same, get_or-set_other}
+use Rattle.std.specs.Prelude.{Bool, true, false, ◌||◌, cond, ltb, List, [], ◌⊎◌, ◌≡◌, length, get_or, set, Ok, Err}
+use Rattle.std.proofs.Common.{inl, inr, sym, ap, ◌∙◌, add-one, arith, lt-ltb, le-ltb, get_or-set_same, get_or-set_other}
 use Rattle.std.proofs.Math.Path.{refl}
 use Prim.Native.Nat.{ℕ, zero, suc, ◌+◌, ◌%◌, ◌<◌, ◌≤◌}
 use Rattle.base.specs.Truth.{lt_or_le}
 use Rattle.roles.specs.Rule.{Rule}
 use Rattle.base.specs.Result.{map_result}
-use Rattle.base.specs.Result.Result.{refused}
+use Rattle.base.specs.Result.Result.{refused, ok}
 use Rattle.book_format.specs.Format.{repeats, distinct, read}
 use Rattle.book_format.specs.Place.{rule_at, rule_place, first_rules}
 use Rattle.book_format.specs.FormatLaws.{length-first_rules}
@@ -101,3 +101,11 @@ module _ {s : List ℕ} {h : Header} (reading : Headed s h) (bounds : Bounded s 
 
     pub none-judged : h.rules ≤ lowest → judged h (Ok tt) ≡ map_result header_of (read s)
     none-judged l = judged-none reading (let e : lowest ≡ h.rules = omega (arith, search.low) in e) (searched lowest (omega arith))
+
+    -- both in one: by the lowest repeat, or by the number of rules where there is none
+    pub lowest_judged : cond (ltb lowest h.rules) (refused 7 lowest) (ok h) ≡ map_result header_of (read s)
+    lowest_judged = by_place (lt_or_le lowest h.rules)
+      where
+        by_place : (lowest < h.rules) ⊎ (h.rules ≤ lowest) → cond (ltb lowest h.rules) (refused 7 lowest) (ok h) ≡ map_result header_of (read s)
+        by_place (inl l) = rw (lt-ltb lowest h.rules l) (lowest-judged l)
+        by_place (inr l) = rw (le-ltb lowest h.rules l) (none-judged l)

@@ -3,8 +3,6 @@
 
 ghost use Rattle.derivation_steps.specs.StepBytes.{Reads, Puts};
 
-use words::word;
-
 // A replacement: at a place of the present chain, by the rule of a number as it stands (side 0) or by its inverse (side 1).
 #[derive(Clone, Copy)]
 pub struct WrittenStep {
@@ -26,7 +24,7 @@ pub fn step_of(steps: &[u8], k: usize) -> WrittenStep
     }
     let at = 4 * k;
     WrittenStep {
-        place: word(steps, at),
+        place: steps[at] as usize + 256 * steps[at + 1] as usize,
         number: steps[at + 2] as usize,
         side: steps[at + 3] as usize,
     }

@@ -2,6 +2,7 @@
 use Rattle.std.specs.Prelude.{Bool, true, false, List, [], ◌∷◌, ◌++◌, ◌≡◌, ℕ, suc, ◌+◌, ◌*◌, ◌≤◌, length, take}
 use Rattle.std.specs.Prelude.{Result as Answer}
 use Rattle.base.specs.Result.{Result, map_result}
+use Rattle.base.specs.Result.Result.{refused, ok}
 use Rattle.refusals.specs.declared.build.BuildRefusal.{BuildRefusal}
 use Rattle.refusals.specs.Said.{said}
 use Rattle.refusals.specs.BuildRefusals.{build_cause, build_value}
@@ -10,13 +11,18 @@ use Rattle.transcript_lines.specs.Lines.{answer_line}
 use Rattle.query_answerer.specs.Batch.{told}
 use Rattle.line_writer.specs.Puts.{Puts}
 
+-- the numbers of states and transitions and the depth of an accepted book, or the number and the second value of a refusal
+abbrev pub book_says : Bool → ℕ → ℕ → ℕ → Result (ℕ × (ℕ × ℕ))
+book_says true first second third = ok (first, (second, third))
+book_says false first second third = refused first second
+
 -- the numbers of states and transitions and the depth
 abbrev pub line_numbers : Counts → ℕ × (ℕ × ℕ)
 line_numbers c = (c.states, (c.transitions, c.depth))
 
 -- these numbers of an accepted book, or the number of a refusal and the value beside it
-abbrev pub book_says : Answer Counts BuildRefusal → Result (ℕ × (ℕ × ℕ))
-book_says build = map_result line_numbers (said build_cause build_value build)
+abbrev pub build_says : Answer Counts BuildRefusal → Result (ℕ × (ℕ × ℕ))
+build_says build = map_result line_numbers (said build_cause build_value build)
 
 -- the line of one question, of at most 64 bytes
 pub record PutsAnswer (out : List ℕ) (at k byte : ℕ) (out' : List ℕ) (end : ℕ) : Type 0 where

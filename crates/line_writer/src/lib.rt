@@ -5,5 +5,5 @@ mod line;
 mod question;
 mod text;
 
-pub use line::{answer_lines, first_line, last_line};
+pub use line::{answer_lines, build_line, first_line, last_line};
 pub use question::is_whole;

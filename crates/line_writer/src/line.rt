@@ -4,7 +4,7 @@ ghost use Rattle.std.specs.Prelude.{◌+◌, ◌≤◌, length};
 ghost use Rattle.transcript_lines.specs.Lines.{first_line};
 ghost use Rattle.transcript_lines.specs.Block.{ending};
 ghost use Rattle.line_writer.specs.Puts.{Puts, PutsPair};
-ghost use Rattle.line_writer.specs.Said.{book_says, HasRoom, PutsAnswer, WritesLines};
+ghost use Rattle.line_writer.specs.Said.{book_says, build_says, HasRoom, PutsAnswer, WritesLines};
 
 use crate::question::is_whole;
 use crate::text::{put, put_number};
@@ -12,27 +12,35 @@ use refusals::{BuildRefusal, Refusal};
 use table_limits::Counts;
 
 // Puts the first line at the front of the buffer, and returns its length: of an accepted book the numbers of states and transitions and the depth, else
-// the number of the refusal and the value beside it.
-pub fn first_line(build: Result<Counts, BuildRefusal>, line: &mut [u8; 72]) -> usize
-    ensures { Puts line.old 0 (first_line (book_says build)) line.new result }
+// the number and the second value of the refusal, where the third number is not read.
+pub fn first_line(accepted: bool, first: u64, second: u64, third: u64, line: &mut [u8; 72]) -> usize
+    ensures { Puts line.old 0 (first_line (book_says accepted first second third)) line.new result }
+{
+    if accepted {
+        let end = put_pair(line, b"book ", first, second, b" ");
+        return put_number(line, end, third, b"\n");
+    }
+    put_pair(line, b"book refused ", first, second, b"\n")
+}
+
+// The same for what a build gives: its counts, or its refusal by number and value.
+pub fn build_line(build: Result<Counts, BuildRefusal>, line: &mut [u8; 72]) -> usize
+    ensures { Puts line.old 0 (first_line (build_says build)) line.new result }
 {
     match build {
-        Ok(counts) => {
-            let end = put_pair(
-                line,
-                b"book ",
-                counts.states as u64,
-                counts.transitions as u64,
-                b" ",
-            );
-            put_number(line, end, counts.depth as u64, b"\n")
-        }
-        Err(refusal) => put_pair(
+        Ok(counts) => first_line(
+            true,
+            counts.states as u64,
+            counts.transitions as u64,
+            counts.depth as u64,
             line,
-            b"book refused ",
+        ),
+        Err(refusal) => first_line(
+            false,
             refusal.cause() as u64,
             refusal.value() as u64,
-            b"\n",
+            0,
+            line,
         ),
     }
 }

@@ -1,5 +1,5 @@
 -- What the order check's answers say.
-use Rattle.std.specs.Prelude.{Bool, true, false, not, List, ◌≡◌, ℕ, replicate, Ok}
+use Rattle.std.specs.Prelude.{Bool, true, false, not, List, ◌≡◌, ℕ, replicate, Ok, Err}
 use Rattle.std.specs.Prelude.{Result as Answer}
 use Rattle.roles.specs.Rule.{Rule, Book}
 use Rattle.order.specs.Closure.{with_rule, clashes}
@@ -37,12 +37,21 @@ GatheredOrder s (ok h) masks = (b : Book) → ordered s ≡ ok b → (lower : �
 abbrev pub header_said : Answer Ordering BookRefusal → Result Header
 header_said r = map_result (λ (o : Ordering). o.header) (said book_cause book_value r)
 
+-- its levels and its depth: 0 of a book that is refused
+abbrev pub levels_in : Answer Ordering BookRefusal → List ℕ
+levels_in (Ok ordering) = ordering.levels
+levels_in (Err refusal) = replicate 64 0
+
+abbrev pub depth_in : Answer Ordering BookRefusal → ℕ
+depth_in (Ok ordering) = ordering.depth
+depth_in (Err refusal) = 0
+
 -- the answer of the order check
 pub record Ordered (s : List ℕ) (r : Answer Ordering BookRefusal) : Type 0 where
   -- causes 1 to 8
   pub verdict : header_said r ≡ map_result header_of (ordered s)
   -- cause 8 is given exactly where there is no regular order, by the last rule of the shortest front part that has none
   pub judged : (b : Book) → read s ≡ ok b → Judged b (ordered s)
-  -- of a book that passes, the levels of its names over zeros, and the highest of them
-  pub levels : (o : Ordering) → r ≡ Ok o → o.levels ≡ written (ordered s) levels_of (replicate 64 0)
-  pub depth : (o : Ordering) → r ≡ Ok o → o.depth ≡ count_or_none depth_of (ordered s)
+  -- the levels of the names of a book that passes, over zeros, and the highest of them; zeros alone where it is refused
+  pub levels : levels_in r ≡ written (ordered s) levels_of (replicate 64 0)
+  pub depth : depth_in r ≡ count_or_none depth_of (ordered s)

@@ -1,5 +1,5 @@
--- The whole answer of the order check: refused, or passed with the levels of the rules.
-use Rattle.std.specs.Prelude.{List, ◌≡◌, ℕ, replicate, Ok, Err}
+-- The whole answer of the order check: refused with levels of 0, or passed with the levels of the rules.
+use Rattle.std.specs.Prelude.{List, ◌≡◌, refl, ℕ, replicate, Ok, Err}
 use Rattle.std.proofs.Math.Path.{sym, ap}
 use Rattle.std.proofs.Common.{◌∙◌, take_all}
 use Rattle.std.proofs.Math.ListN.{length, get_or-replicate}
@@ -10,7 +10,7 @@ use Rattle.order_levels.specs.Levels.{LeveledBy, Climbs}
 use Rattle.order_masks.specs.MaskLevels.{levels-found, depth-found}
 use Rattle.base.specs.Result.{Result, map_result}
 use Rattle.base.specs.Result.Result.{ok}
-use Rattle.base.specs.ResultLaws.{ok_injective, map_ok}
+use Rattle.base.specs.ResultLaws.{ok_injective, map_refused, map_ok}
 use Rattle.book_format.specs.Format.{read}
 use Rattle.book_format.specs.ReadLaws.{read_names, read-few_names}
 use Rattle.book_causes.specs.Ordered.{ordered}
@@ -24,7 +24,9 @@ use Rattle.order_checker.specs.Gather.{GatheredOrder, Ordered}
 
 module _ {s : List ℕ} where
   pub order-refused : {x : BookRefusal} → says (Err x) ≡ map_result header_of (ordered s) → Ordered s (Err x)
-  order-refused e = record { verdict = e; judged = ordered-judged s; levels = λ o q. cc; depth = λ o q. cc }
+  order-refused e =
+      let o = map_refused header_of (ordered s) e in
+      record { verdict = e; judged = ordered-judged s; levels = rw o refl; depth = rw o refl }
 
   -- levels found by masks, one for each name, that hold the gathered order
   pub order-passed : {h w : Header} → ok h ≡ map_result header_of (ordered s) → ok w ≡ map_result header_of (read s) → (masks : List ℕ) → length masks ≡ w.names → GatheredOrder s (ok h) masks → {l : Levels}
@@ -43,15 +45,8 @@ module _ {s : List ℕ} where
         verdict = f ∙ ap (map_result header_of) (i ∙ sym q);
         judged = ordered-judged s;
         levels =
-            λ o z.
-            let y : ◌≡◌ {A = Ordering} o (record { header = w; levels = l.levels; depth = l.depth }) = cc in
-            ap (λ (x : Ordering). x.levels) y
-            ∙ levels-found b.names b.rules (read_names s b i) few k.1 same k.2 all (replicate 64 0) (length-replicate {A = ℕ} 64 0)
+            levels-found b.names b.rules (read_names s b i) few k.1 same k.2 all (replicate 64 0) (length-replicate {A = ℕ} 64 0)
             (λ x p. get_or-replicate {A = ℕ} 64 x 0 0 p)
             ∙ sym (ap (λ (t : Result Book). written t levels_of (replicate 64 0)) q);
-        depth =
-            λ o z.
-            let y : ◌≡◌ {A = Ordering} o (record { header = w; levels = l.levels; depth = l.depth }) = cc in
-            ap (λ (x : Ordering). x.depth) y
-            ∙ depth-found b.names b.rules (read_names s b i) few k.1 same k.2 all ∙ sym (ap (count_or_none depth_of) q);
+        depth = depth-found b.names b.rules (read_names s b i) few k.1 same k.2 all ∙ sym (ap (count_or_none depth_of) q);
       }

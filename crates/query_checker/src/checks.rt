@@ -30,9 +30,12 @@ fn heads_fit(heads: &[u16]) -> bool
 fn transitions_fit(moves: &[u16]) -> bool
     ensures { result ≡ transitions_fit (transitions_in moves.now) }
 {
-    moves.chunks_exact(3).all(|transition| transition[0] <= 2047
-        && transition[1] <= 128
-        && transition[2] <= 2047)
+    for k in 0..moves.len() / 3 {
+        if 2047 < moves[3 * k] || 128 < moves[3 * k + 1] || 2047 < moves[3 * k + 2] {
+            return false;
+        }
+    }
+    true
 }
 
 // Cause 13: 1 to 1,024 links.

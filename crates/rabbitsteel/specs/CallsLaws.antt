@@ -22,7 +22,7 @@ use Rattle.book_decoder.specs.Verdict.{header_of}
 use Rattle.book_causes.specs.Ordered.{ordered}
 use Rattle.book_causes.specs.Accepted.{levels_of, depth_of, count_or_none, built, written}
 use Rattle.order_checker.specs.declared.Ordering.{Ordering}
-use Rattle.order_checker.specs.Gather.{header_said, Ordered}
+use Rattle.order_checker.specs.Gather.{header_said, levels_in, depth_in, Ordered}
 use Rattle.query_causes.specs.Query.{Answered}
 use Rattle.query_parts.specs.Answer as answers
 use Rattle.table_builder.specs.Builds as builder
@@ -54,8 +54,8 @@ module _ {s : List ℕ} {l l' : List ℕ} where
   tells-order o p found e levels {cause} {one} {two} {three} t =
       let b : (b : Book) × (ordered s ≡ ok b) × (found.header ≡ header_of b) = map_ok header_of (ordered s) (ap header_said (sym e) ∙ p.verdict) in
       let n : found.header.names ≡ b.0.names = ap (λ (x : Header). x.names) b.2 in
-      let d : found.depth ≡ depth_of b.0 = p.depth found e ∙ ap (count_or_none depth_of) b.1 in
-      let k : found.levels ≡ over (levels_of b.0) (replicate 64 0) = p.levels found e ∙ ap (λ (t : Result Book). written t levels_of (replicate 64 0)) b.1 in
+      let d : found.depth ≡ depth_of b.0 = ap depth_in (sym e) ∙ p.depth ∙ ap (count_or_none depth_of) b.1 in
+      let k : found.levels ≡ over (levels_of b.0) (replicate 64 0) = ap levels_in (sym e) ∙ p.levels ∙ ap (λ (t : Result Book). written t levels_of (replicate 64 0)) b.1 in
       let f : take found.header.names found.levels ≡ levels_of b.0
       = ap (take found.header.names) k ∙ over-front found.header.names (levels_of b.0) (replicate 64 0) (n ∙ sym (levels-length b.0.rules b.0.names b.0.names 0)) in
       let told : map_result ordering_counts (said book_cause book_value o) ≡ map_result order_counts (ordered s)

@@ -10,7 +10,7 @@ use Rattle.order.specs.Shape.{shape}
 use Rattle.order.specs.ClosureLaws.{inner-left}
 use Rattle.base.specs.Result.{Result, map_result}
 use Rattle.base.specs.Result.Result.{refused, ok}
-use Rattle.base.specs.ResultLaws.{refused-ok, ok_injective}
+use Rattle.base.specs.ResultLaws.{refused-ok, ok_injective, map_refused}
 use Rattle.book_format.specs.Format.{read}
 use Rattle.book_format.specs.Place.{rule_at, rule_place}
 use Rattle.book_format.specs.FormatLaws.{get_or-first_rules}
@@ -111,10 +111,10 @@ module _ (s : List ℕ) (b : Book) (i : read s ≡ ok b) where
 
 -- the answer, by the answer of the order check
 pub indexes_refused : {s old : List ℕ} {x : BookRefusal} → Ordered s (Err x) → Indexes s old old (Err x)
-indexes_refused {x = x} o =
+indexes_refused {s = s} {x = x} o =
     record {
       verdict = o.verdict;
-      depth = λ i q. cc;
+      depth = rw (map_refused header_of (ordered s) o.verdict) refl;
       kept = λ _ _ _. refl;
       other = λ _. refl;
       index = λ b q. absurd (refused-ok (book_cause x) (book_value x) (header_of b) (o.verdict ∙ ap (map_result header_of) q));
@@ -124,11 +124,6 @@ indexes_refused {x = x} o =
 module _ {s : List ℕ} {r : Ordering} (o : Ordered s (Ok r)) where
   e : ok r.header ≡ map_result header_of (ordered s)
   e = o.verdict
-
-  same_depth : (i : Indexing) → ◌≡◌ {A = Answer Indexing BookRefusal} (Ok (record { header = r.header; depth = r.depth })) (Ok i) → i.depth ≡ count_or_none depth_of (ordered s)
-  same_depth i q =
-      let y : ◌≡◌ {A = Indexing} i (record { header = r.header; depth = r.depth }) = cc in
-      ap (λ (x : Indexing). x.depth) y ∙ o.depth r refl
 
   rules : (b : Book) → ordered s ≡ ok b → r.header.rules ≡ length b.rules
   rules b q = sym (ap (λ (x : Header). x.rules) (ok_injective (header_of b) r.header (sym (ap (map_result header_of) q) ∙ sym e)))
@@ -144,13 +139,13 @@ module _ {s : List ℕ} {r : Ordering} (o : Ordered s (Ok r)) where
   rules-whole = rw (rules passed.0 passed.1) (ruled s passed.0 (ordered-read s passed.0 passed.1))
 
   fitting : (b : Book) → ordered s ≡ ok b → Fitting r.levels b
-  fitting b q = subst (λ (l : List ℕ). Fitting l b) (sym (o.levels r refl ∙ ap (λ (t : Result Book). written t levels_of (replicate 64 0)) q)) (levels-fitting s b q (replicate 64 0))
+  fitting b q = subst (λ (l : List ℕ). Fitting l b) (sym (o.levels ∙ ap (λ (t : Result Book). written t levels_of (replicate 64 0)) q)) (levels-fitting s b q (replicate 64 0))
 
   pub indexes_other : {old : List ℕ} → (length old ≡ 3904 → ⊥) → Indexes s old old (Ok (record { header = r.header; depth = r.depth }))
   indexes_other x =
       record {
         verdict = e;
-        depth = same_depth;
+        depth = o.depth;
         kept = λ _ _ _. refl;
         other = λ _. refl;
         index = λ b q p. absurd (x p);
@@ -169,7 +164,7 @@ module _ {s : List ℕ} {r : Ordering} (o : Ordered s (Ok r)) where
     indexes_filled {old} z {new} k =
         record {
           verdict = e;
-          depth = same_depth;
+          depth = o.depth;
           kept = λ c v q. absurd (refused-ok c v r.header (sym (e ∙ ap (map_result header_of) q)));
           other = λ w. absurd (w z);
           index =

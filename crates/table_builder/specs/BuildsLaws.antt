@@ -19,7 +19,7 @@ use Rattle.refusals.specs.BookRefusals.{book_cause, book_value}
 use Rattle.book_decoder.specs.Verdict.{header_of}
 use Rattle.rule_index.specs.declared.Indexing.{Indexing}
 use Rattle.rule_index.specs.RuleIndex.{Indexed}
-use Rattle.rule_index.specs.Indexes.{Indexes, header_said}
+use Rattle.rule_index.specs.Indexes.{Indexes, header_said, depth_in}
 use Rattle.table_limits.specs.Limits.{limited}
 use Rattle.table_builder.specs.Lay.{Enough, Counted, Rooted}
 use Rattle.table_builder.specs.Builds.{counts_of, Answers, Checked, Prepared, Builds}
@@ -89,7 +89,7 @@ module _ {s ix : List ℕ} {i : Answer Indexing BookRefusal} (a : Checked s ix i
       answers : Answers s (length h) (length m) x
       answers =
           let p = prepared in
-          let deep = a.2.depth o w ∙ ap (count_or_none depth_of) p.ordered in
+          let deep = ap depth_in (sym w) ∙ a.2.depth ∙ ap (count_or_none depth_of) p.ordered in
           rw k (judged s ix o.header.names p deep end (c p.book.rules p.index p.book.names p.levels) (length h) (length m))
 
       pub builds-limited : {r : BuildRefusal} → x ≡ Err r → Builds s h m h m (Err r)

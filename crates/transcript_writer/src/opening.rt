@@ -2,7 +2,7 @@
 ghost use Rattle.std.specs.Prelude.{replicate};
 ghost use Rattle.transcript_writer.specs.Opened.{Opens};
 
-use line_writer::first_line;
+use line_writer::build_line;
 use table_builder::build;
 
 // The tables of a book as one build has written them, with how many of their numbers count.
@@ -28,7 +28,7 @@ pub fn open(book: &[u8], line: &mut [u8; 72]) -> Opening
     let mut heads = [0u16; 64];
     let mut moves = [0u16; 15360];
     let built = build(book, &mut heads, &mut moves);
-    let written = first_line(built, line);
+    let written = build_line(built, line);
     let tables = built.ok().map(|counts| Tables {
         heads,
         moves,

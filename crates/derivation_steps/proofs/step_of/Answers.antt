@@ -6,4 +6,4 @@ use Rattle.derivation_steps.proofs.step_of.Goals as goal
 
 pub returns : goal.returns
 unfolding step_at
-returns c = reads_whole _ _ _ (omega arith) (rw c.word.ensures refl)
+returns c = reads_whole _ _ _ (omega arith) refl

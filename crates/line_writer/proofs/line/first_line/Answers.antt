@@ -2,5 +2,8 @@
 use Rattle.line_writer.specs.SaidLaws.{puts_third}
 use Rattle.line_writer.proofs.line.first_line.Goals as goal
 
-pub returns-in-Ok : goal.returns-in-Ok
-returns-in-Ok c = rw c.in-Ok.is (puts_third c.put_pair-end.ensures c.put_number.ensures)
+pub returns-then-accepted : goal.returns-then-accepted
+returns-then-accepted c = rw c.if-accepted.true (puts_third c.put_pair-end.ensures c.put_number.ensures)
+
+pub returns : goal.returns
+returns c = rw c.if-accepted.false c.put_pair.ensures.puts
