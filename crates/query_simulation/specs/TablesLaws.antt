@@ -58,7 +58,7 @@ module _ (s : List ℕ) (i : ℕ) where
         (drop-cons s (suc i) 0 (omega arith)
         ∙ ap (λ (r : List ℕ). get_or s (suc i) 0 ∷ r) (drop-cons s (suc (suc i)) 0 (omega arith))))
 
-    spelled : fit_from s i ≡ (leb (get_or s i 0) 2047 && leb (get_or s (i + 1) 0) 128 && leb (get_or s (i + 2) 0) 2047 && fit_from s (i + 3))
+    pub spelled : fit_from s i ≡ (leb (get_or s i 0) 2047 && leb (get_or s (i + 1) 0) 128 && leb (get_or s (i + 2) 0) 2047 && fit_from s (i + 3))
     unfolding transitions_fit transitions_in
     spelled = ap (λ (r : List ℕ). transitions_fit (transitions_in r)) three
 
