@@ -15,7 +15,7 @@ pub fn list_of(moves: &[u16], room: u16, k: usize) -> Option<usize>
     let place = 3 * k;
     let from = moves[place];
     let to = moves[place + 2];
-    if room <= from || room <= to {
+    if (room <= from) | (room <= to) {
         return None;
     }
     let silent = moves[place + 1] / 128;
