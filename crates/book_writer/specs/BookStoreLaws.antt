@@ -1,20 +1,15 @@
--- The stores of the code are the puts: a part copied to a place, whole or element by element, a rule by its length and its room, the eight bytes in front.
+-- The stores of the code are the puts: a copy element by element, a rule by its length and its room, the eight bytes in front.
 use Rattle.std.specs.Prelude.{true, false, List, [], ◌∷◌, ◌≡◌, ℕ, ◌+◌, ◌<◌, ◌≤◌, leb, length, get_or, take, set}
 use Rattle.std.proofs.Math.Bool.{and-false}
 use Rattle.std.proofs.Math.Path.{refl, sym}
-use Rattle.std.proofs.Common.{ap, ◌∙◌, add-one, append_assoc, drop-drop, arith, le-leb, take-suc, take_all, length-take-le}
+use Rattle.std.proofs.Common.{ap, ◌∙◌, add-one, arith, le-leb, take-suc, take_all, length-take-le}
 use Rattle.std.proofs.Math.Numerals.{add-two}
 use Rattle.std.proofs.lemmas.Bool.{lt-leb}
-use Rattle.std.proofs.lemmas.List.Edits.{sets, sets-eq}
-use borrow.Rule.Slice.PartMut.{put_mid}
+use Rattle.std.proofs.lemmas.List.Edits.{sets}
 use Rattle.base.specs.WritingLaws.{sets_append}
 use Rattle.roles.specs.Rule.{Rule}
 use Rattle.book_format.specs.Encode.{header, rule_bytes}
 use Rattle.book_writer.specs.BookStores.{has_room, put_rule, after_rule, RulePut, put_header}
-
--- a part of as many elements copied to a place
-pub copied : (s : List ℕ) (at k : ℕ) (part : List ℕ) → k ≡ length part → at + k ≤ length s → put_mid at k s part ≡ sets s at part
-copied s at k part e h = rw (e, sets-eq part s at (omega arith), append_assoc, drop-drop) refl
 
 -- a copy of i elements, and one more, and all
 module _ (s : List ℕ) (at : ℕ) (part : List ℕ) (s' : List ℕ) (i : ℕ) (e : s' ≡ sets s at (take i part)) where

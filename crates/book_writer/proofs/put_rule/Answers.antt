@@ -1,6 +1,6 @@
 -- `put_rule` meets its contract: nothing where the rule is too long or has no room, else its bytes in a row.
-use Rattle.std.proofs.Common.{List, ℕ, ◌+◌, ◌-◌, length, set, arith, length-set}
-use Rattle.book_writer.specs.BookStoreLaws.{copied, put_long, put_full, put-stored}
+use Rattle.std.proofs.Common.{arith}
+use Rattle.book_writer.specs.BookStoreLaws.{put_long, put_full, put-stored}
 use Rattle.book_writer.proofs.put_rule.Goals as goal
 use Rattle.book_writer.proofs.put_rule.Goals.{then-size-gt255-via-then-size-gt255, then-size-gt255-via-else-size-gt255+then-book-size, then-size-gt255-via-else-size-gt255+else-book-size+then-book-size-2}
 
@@ -13,9 +13,4 @@ returns-then-size-gt255 c =
     ]
 
 pub returns : goal.returns
-returns c =
-    let a = c.args in
-    let s : List ℕ = set (set a.book.now a.at a.right) (a.at + 1) (length a.left.now) in
-    let k : ℕ = a.at + 2 + length a.left.now - (a.at + 2) in
-    put-stored _ _ _ (omega arith) (omega arith)
-    (rw c.copy_from_slice.ensures.after (copied s (a.at + 2) k a.left.now (omega arith) (simp length-set (omega arith))))
+returns c = put-stored _ _ _ (omega arith) (omega arith) c.copy.ensures
