@@ -25,5 +25,5 @@ pub fn single(x: usize) -> u64
 pub fn without_lowest(set: u64) -> u64
     ensures { result ≡ bit_xor set (only (count_trailing_zeros 64 set)) }
 {
-    set & set.wrapping_sub(1)
+    if set == 0 { 0 } else { set & (set - 1) }
 }

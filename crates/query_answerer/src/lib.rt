@@ -26,7 +26,8 @@ pub fn ask(heads: &[u16], moves: &[u16], role: u8, chain: &[u8]) -> Result<bool,
     ensures { Answered heads.now moves.now role chain.now (says result) }
 {
     check(heads, moves, role, chain)?;
-    Ok(accepts(moves, role, chain, head(heads, role)))
+    let accepted = accepts(moves, role, chain, head(heads, role));
+    Ok(accepted)
 }
 
 // Whether a path from the state `head` to the next one spells the chain, or its inverse for the inverse of a name. Small tables are read in a

@@ -14,12 +14,11 @@ pub fn key(left: &[u8], right: u8) -> u64
     if 8 < left.len() {
         return 0;
     }
-    let code = if is_inverse(right) {
-        inverse_code(left)
+    if is_inverse(right) {
+        64 * inverse_code(left) + name(right) as u64
     } else {
-        plain_code(left)
-    };
-    64 * code + name(right) as u64
+        64 * plain_code(left) + name(right) as u64
+    }
 }
 
 // The code of a chain, from its last role to its first.

@@ -10,8 +10,8 @@ returns-in_err-check c =
     let p = err_from_is_err_and c.from_residual.result c.from_residual.ensures.1 in
     rw (p.1, p.2) (refuses _ 0 (sym c.in_err-check.ensures))
 
-pub accepts-requires : goal.accepts-requires
-accepts-requires c = askable _ _ _ _ (sym c.in_ok-check.ensures) c.head.ensures
+pub accepts-accepted-requires : goal.accepts-accepted-requires
+accepts-accepted-requires c = askable _ _ _ _ (sym c.in_ok-check.ensures) c.head.ensures
 
 pub returns : goal.returns
-returns c = answered _ _ _ _ (sym c.in_ok-check.ensures) c.head.ensures _ c.accepts.ensures refl
+returns c = answered _ _ _ _ (sym c.in_ok-check.ensures) c.head.ensures _ c.accepts-accepted.ensures refl
